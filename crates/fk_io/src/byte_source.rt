@@ -1,0 +1,114 @@
+ghost use Rattle.std.specs.Prelude.{◌≡◌, ◌≢◌, ◌≤◌, [], None, Some, Ok, length, take, drop, is_ok, not, IfOk, OnErr};
+ghost use Rattle.fk_io.specs.Content.{Took, IsAtEnd};
+ghost use Rattle.fk_io.specs.Faults.{HasCause};
+ghost use Rattle.fk_io.specs.Supply.{is_listed, piece_length, after_read};
+
+use crate::{Failed, Source, raised};
+use std::alloc::{AllocError, Global};
+use std::marker::Model;
+
+/// A source in memory. It gives its bytes in the pieces that the cuts say, and fails at the calls
+/// that are listed.
+#[derive(Debug, Drop)]
+pub struct ByteSource {
+    bytes: Vec<u8>,
+    given: usize,
+    cuts: Vec<usize>,
+    cuts_used: usize,
+    failing: Vec<u64>,
+    calls: u64,
+    faults: u64,
+}
+
+impl Model for ByteSource {
+    ghost use Rattle.std.specs.Prelude.{drop};
+    ghost use Rattle.fk_io.specs.Supply.{Supply};
+
+    ghost Value = { Supply };
+
+    ghost view = { λ s. record {
+        left = drop s.given s.bytes.items;
+        cuts = drop s.cuts_used s.cuts.items;
+        failing = s.failing.items;
+        calls = s.calls;
+        faults = s.faults } };
+}
+
+impl ByteSource {
+    /// A source of these bytes. Each piece has at most as many bytes as the next cut, where a cut of
+    /// 0 counts as 1, and behind the last cut as many as are asked for. The calls with the listed
+    /// numbers, counted from 0, fail.
+    pub fn new(
+        alloc: Global,
+        bytes: &[u8],
+        cuts: &[usize],
+        failing: &[u64],
+    ) -> Result<ByteSource, AllocError>
+        ensures { IfOk result (λ source. source ≡ record {
+            left = bytes.now; cuts = cuts.now; failing = failing.now; calls = 0; faults = 0 }) }
+    {
+        Ok(ByteSource {
+            bytes: Vec::from_slice(alloc, bytes)?,
+            given: 0,
+            cuts: Vec::from_slice(alloc, cuts)?,
+            cuts_used: 0,
+            failing: Vec::from_slice(alloc, failing)?,
+            calls: 0,
+            faults: 0,
+        })
+    }
+
+    /// Whether the next call is one of those that fail.
+    fn is_failing(&self) -> bool
+        ensures { result ≡ is_listed self.now.failing self.now.calls }
+    {
+        let call = self.calls;
+        self.failing.iter().any(|number| *number == call)
+    }
+
+    /// How many bytes the next piece has in a buffer of this length.
+    fn piece_length(&self, asked: usize) -> usize
+        ensures { result ≡ piece_length self.now asked }
+    {
+        let most = match self.cuts.get(self.cuts_used) {
+            Some(cut) => asked.min((*cut).max(1)),
+            None => asked,
+        };
+        most.min(self.bytes.len() - self.given)
+    }
+}
+
+impl Source for ByteSource {
+    ghost left = { λ s. Some s.left };
+
+    ghost read_faults = { λ s. s.faults };
+
+    /// A listed call fails. Any other gives the next piece.
+    fn take(&mut self, into: &mut [u8]) -> Result<usize, Failed>
+        ensures count { IfOk result (λ n. n ≤ length into.new) }
+        ensures taken { IfOk result (λ n. Took (Some self.old.left) (take n into.new) (Some self.new.left)) }
+        ensures rest { IfOk result (λ n. drop n into.new ≡ drop n into.old) }
+        ensures end { result ≡ Ok 0 → into.old ≢ [] → IsAtEnd (Some self.old.left) }
+        ensures same { OnErr result (Some self.new.left ≡ Some self.old.left) }
+        ensures cause { HasCause self.old.faults self.new.faults result }
+
+        // Beyond what the trait says: which calls fail, how long a piece is, and what is used up.
+        ensures listed { is_ok result ≡ not (is_listed self.old.failing self.old.calls) }
+        ensures piece { IfOk result (λ n. n ≡ piece_length self.old (length into.old)) }
+        ensures after { self.new ≡ after_read self.old (length into.old) }
+    {
+        let fails = self.is_failing();
+        self.calls = raised(self.calls);
+        if fails {
+            self.faults = raised(self.faults);
+            return Err(Failed);
+        }
+        let n = self.piece_length(into.len());
+        into[..n].copy_from_slice(&self.bytes[self.given..self.given + n]);
+        self.given += n;
+        if self.cuts_used < self.cuts.len() {
+            self.cuts_used += 1;
+        }
+        Ok(n)
+    }
+}

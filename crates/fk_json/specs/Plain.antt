@@ -1,0 +1,95 @@
+-- The plain form of a job, which stands in for JSON until a reader of it does.
+use Rattle.std.specs.Prelude.{◌≡◌, ◌⊎◌, ◌&&◌, ◌||◌, ℕ, ◌==◌, ◌≤◌, ◌<◌, ◌+◌, ◌-◌, Bool, nat_le, nat_lt, not, List, [], ◌++◌, length, take, drop, codes, slice_index, All}
+use Rattle.std.specs.List.{AllPass, before_first, after_first, list_all, list_any, join_with_byte, slice_split}
+use Rattle.std.specs.Char.{is_ascii_alphanumeric, is_ascii_digit}
+use Rattle.std.specs.Str.{bytes_eq}
+
+-- letters, digits, `.`, `_` and `-`
+abbrev pub is_name_byte : ℕ → Bool
+is_name_byte byte = is_ascii_alphanumeric byte || (byte == 46) || (byte == 95) || (byte == 45)
+
+-- one or more digits
+pub record AreDigits (text : List ℕ) : Type 0 where
+  pub some : 0 < length text
+  pub each : AllPass is_ascii_digit text
+
+-- 0, or digits of which the first isn't 0
+abbrev pub IsWhole : List ℕ → Type 0
+IsWhole text = (text ≡ codes "0") ⊎ (AreDigits text × ¬ (slice_index text 0 ≡ 48))
+
+-- a whole number, or one with a point and digits behind it
+abbrev pub IsNumber : List ℕ → Type 0
+IsNumber text = IsWhole text ⊎ ((whole digits : List ℕ) × IsWhole whole × AreDigits digits × (text ≡ whole ++ codes "." ++ digits))
+
+-- nothing, or numbers with commas between them
+abbrev pub AreNumbers : List ℕ → Type 0
+AreNumbers text = (text ≡ []) ⊎ ((numbers : List (List ℕ)) × (0 < length numbers) × All IsNumber numbers × (text ≡ join_with_byte 44 numbers))
+
+-- a name of at least so many bytes
+pub record IsName (least : ℕ) (text : List ℕ) : Type 0 where
+  pub long : least ≤ length text
+  pub each : AllPass is_name_byte text
+
+-- the text around its parts: {"jid":"..","jobtype":"..","args":[..]}
+abbrev pub around : List ℕ → List ℕ → List ℕ → List ℕ
+around jid jobtype args =
+    codes "{\"jid\":\"" ++ jid ++ codes "\",\"jobtype\":\"" ++ jobtype ++ codes "\",\"args\":[" ++ args ++ codes "]}"
+
+-- a job with no white space, a jid of at least 8 bytes, a jobtype and arguments that are numbers
+pub record IsPlainFormOf (text jid jobtype args : List ℕ) : Type 0 where
+  pub named : IsName 8 jid
+  pub typed : IsName 1 jobtype
+  pub numbers : AreNumbers args
+  pub whole : text ≡ around jid jobtype args
+
+abbrev pub IsPlainForm : List ℕ → Type 0
+IsPlainForm text = (jid jobtype args : List ℕ) × IsPlainFormOf text jid jobtype args
+
+-- The same as a test, for definitions that choose by it. Each part is cut out at its place and tested, and
+-- the parts have to make the text again.
+
+abbrev pub are_digits : List ℕ → Bool
+are_digits text = nat_lt 0 (length text) && list_all is_ascii_digit text
+
+abbrev pub is_whole : List ℕ → Bool
+is_whole text = bytes_eq text (codes "0") || (are_digits text && not (slice_index text 0 == 48))
+
+abbrev pub is_point : ℕ → Bool
+is_point byte = byte == 46
+
+abbrev pub is_number : List ℕ → Bool
+is_number text =
+    is_whole (before_first is_point text) && (not (list_any is_point text) || are_digits (after_first is_point text))
+
+abbrev pub is_comma : ℕ → Bool
+is_comma byte = byte == 44
+
+abbrev pub are_numbers : List ℕ → Bool
+are_numbers text = (length text == 0) || list_all is_number (slice_split is_comma text)
+
+abbrev pub is_name : ℕ → List ℕ → Bool
+is_name least text = nat_le least (length text) && list_all is_name_byte text
+
+abbrev pub is_quote : ℕ → Bool
+is_quote byte = byte == 34
+
+-- the bytes from a place to the next quote
+abbrev pub quoted_at : ℕ → List ℕ → List ℕ
+quoted_at place text = before_first is_quote (drop place text)
+
+abbrev pub jid_of : List ℕ → List ℕ
+jid_of text = quoted_at 8 text
+
+abbrev pub jobtype_of : List ℕ → List ℕ
+jobtype_of text = quoted_at (8 + length (jid_of text) + 13) text
+
+-- what is left behind the jobtype, without the two brackets at the end
+abbrev pub args_of : List ℕ → List ℕ
+args_of text =
+    let rest = drop (8 + length (jid_of text) + 13 + length (jobtype_of text) + 10) text in
+    take (length rest - 2) rest
+
+unfoldable pub is_plain_form : List ℕ → Bool
+is_plain_form text =
+    is_name 8 (jid_of text) && is_name 1 (jobtype_of text) && are_numbers (args_of text)
+    && bytes_eq text (around (jid_of text) (jobtype_of text) (args_of text))

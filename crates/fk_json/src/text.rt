@@ -1,0 +1,102 @@
+ghost use Rattle.std.specs.Prelude.{◌≡◌, ◌++◌, ◌↔◌, [], length, nat_eq, IfOk, IsTrue, OnErr, OnOk};
+ghost use Rattle.std.specs.Cmp.Lexicographic.{pointwise, nat_list_eq_equiv};
+ghost use Rattle.std.specs.Cmp.{partial_equiv_from_equiv};
+
+use std::alloc::{AllocError, Global};
+use std::marker::Model;
+
+/// A list of bytes, of any encoding. A fixed one stands in the program and takes no memory.
+#[derive(Debug, Drop)]
+pub struct Text {
+    fixed: Option<&'static [u8]>,
+    owned: Vec<u8>,
+}
+
+impl Model for Text {
+    ghost use Rattle.std.specs.Prelude.{ℕ, List};
+    ghost use Rattle.fk_json.specs.Text.{bytes_of};
+
+    ghost Value = { List ℕ };
+
+    ghost view = { λ t. bytes_of t.fixed t.owned.items };
+}
+
+impl Text {
+    /// A text that stands in the program. It takes no memory.
+    pub fn fixed(alloc: Global, bytes: &'static [u8]) -> Text
+        ensures { result ≡ bytes.now }
+    {
+        Text {
+            fixed: Some(bytes),
+            owned: Vec::new(alloc),
+        }
+    }
+
+    /// A copy of the bytes.
+    pub fn copy(alloc: Global, bytes: &[u8]) -> Result<Text, AllocError>
+        ensures { IfOk result (λ text. text ≡ bytes.now) }
+    {
+        Ok(Text {
+            fixed: None,
+            owned: Vec::from_slice(alloc, bytes)?,
+        })
+    }
+
+    /// An equal text.
+    pub fn copied(&self) -> Result<Text, AllocError>
+        ensures { IfOk result (λ text. text ≡ self.now) }
+    {
+        Text::copy(*self.owned.allocator(), self.bytes())
+    }
+
+    /// Adds bytes at the end, or leaves the text as it is.
+    pub fn push_bytes(&mut self, bytes: &[u8]) -> Result<(), AllocError>
+        ensures ok { OnOk result (self.new ≡ self.old ++ bytes.now) }
+        ensures err { OnErr result (self.new ≡ self.old) }
+    {
+        if let Some(fixed) = self.fixed {
+            let mut owned = Vec::from_slice(*self.owned.allocator(), fixed)?;
+            owned.extend_from_slice(bytes)?;
+            self.owned = owned;
+            self.fixed = None;
+            return Ok(());
+        }
+        self.owned.extend_from_slice(bytes)
+    }
+
+    pub fn bytes(&self) -> &[u8]
+        ensures { result.now ≡ self.now }
+    {
+        match self.fixed {
+            Some(fixed) => fixed,
+            None => &self.owned,
+        }
+    }
+
+    /// The number of bytes.
+    pub fn len(&self) -> usize
+        ensures { result ≡ length self.now }
+    {
+        self.bytes().len()
+    }
+
+    pub fn is_empty(&self) -> bool
+        ensures { IsTrue result ↔ (self.now ≡ []) }
+    {
+        self.bytes().is_empty()
+    }
+}
+
+impl PartialEq for Text {
+    ghost eq = { pointwise nat_eq };
+
+    ghost laws = { partial_equiv_from_equiv nat_list_eq_equiv };
+
+    fn eq(&self, other: &Self) -> bool {
+        self.bytes() == other.bytes()
+    }
+}
+
+impl Eq for Text {
+    ghost laws = { nat_list_eq_equiv };
+}

@@ -1,0 +1,20 @@
+use fk_frame::Reply;
+use fk_json::Text;
+
+/// How far the talk on one connection has come.
+#[derive(Clone, Copy, Debug, PartialEq, Eq)]
+pub enum Phase {
+    /// The greeting was sent, and no HELLO was accepted.
+    Greeted,
+    /// A HELLO was accepted.
+    Accepted,
+    /// The client said END.
+    Over,
+}
+
+/// What one line of the client gives: the reply to it, and the text that is kept, if one is.
+#[derive(Debug, Drop)]
+pub struct Item {
+    pub reply: Reply,
+    pub kept: Option<Text>,
+}

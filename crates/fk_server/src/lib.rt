@@ -1,0 +1,7 @@
+//! The top calls of the job server.
+#![tactic(auto)]
+
+mod piped;
+mod session;
+
+pub use piped::pipe;

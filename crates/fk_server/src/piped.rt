@@ -1,0 +1,63 @@
+ghost use Rattle.std.specs.Prelude.{◌≡◌, ◌↔◌, IsTrue};
+ghost use Rattle.fk_server.specs.Words.{AreValid};
+ghost use Rattle.fk_server.specs.Session.{IsServed, status_of};
+
+use crate::session::serve;
+use fk_io::{Ended, Sink, Source};
+use fk_json::Texts;
+use std::alloc::Global;
+
+/// The status for words that aren't valid.
+const USAGE: u8 = 2;
+
+/// Serves one connection over an input and an output, without waiting for anybody, and answers the
+/// exit status: 0 where the client said END or the input ended, 2 where the words aren't the one
+/// word `pipe`, 3 where a read failed, 4 where a write failed, 7 where 2^62 bytes were taken and
+/// more would be read, and 8 for want of memory. The texts of the jobs that were taken are added to
+/// `kept`; after 4 and 8 nothing is said of it.
+pub fn pipe<S: Source, K: Sink>(
+    alloc: Global,
+    words: &[&str],
+    input: &mut S,
+    output: &mut K,
+    kept: &mut Texts,
+) -> u8
+    // Status 2 comes exactly where the words aren't valid, and then nothing was called.
+    ensures usage { (result ≡ 2) ↔ ¬ AreValid words.now }
+    ensures untouched { ¬ AreValid words.now
+        → (input.new ≡ input.old) × (output.new ≡ output.old) × (kept.new ≡ kept.old) }
+
+    // With valid words, one session was served.
+    ensures served { AreValid words.now → IsServed result
+        (record { left = S.left input.old; read_faults = S.read_faults input.old;
+            held = K.held output.old; write_faults = K.write_faults output.old; kept = kept.old })
+        (record { left = S.left input.new; read_faults = S.read_faults input.new;
+            held = K.held output.new; write_faults = K.write_faults output.new; kept = kept.new }) }
+{
+    if !are_valid(words) {
+        return USAGE;
+    }
+    status_of(serve(alloc, input, output, kept))
+}
+
+/// Whether the words are the one word `pipe`.
+fn are_valid(words: &[&str]) -> bool
+    ensures { IsTrue result ↔ AreValid words.now }
+{
+    match words {
+        [word] => *word == "pipe",
+        _ => false,
+    }
+}
+
+fn status_of(ended: Ended) -> u8
+    ensures { result ≡ status_of ended }
+{
+    match ended {
+        Ended::Closed => 0,
+        Ended::ReadFault => 3,
+        Ended::WriteFault => 4,
+        Ended::Spent => 7,
+        Ended::NoMemory => 8,
+    }
+}
