@@ -1,5 +1,5 @@
 -- Counts of faults, and when a failure has a cause.
-use Rattle.std.specs.Prelude.{◌≡◌, ◌⊎◌, ℕ, ◌<◌, ◌≤◌, ◌-◌, ◌^◌, Result, OnErr}
+use Rattle.std.specs.Prelude.{◌⊎◌, ℕ, ◌<◌, ◌≤◌, ◌-◌, ◌^◌, Result, OnErr}
 use Rattle.fk_io.specs.declared.fault.Failed.{Failed}
 
 -- the last count, at which a count of faults stands still

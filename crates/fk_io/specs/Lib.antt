@@ -1,4 +1,5 @@
 pub mod Content
 pub mod Faults
 pub mod Supply
+pub mod Progress
 pub mod Store

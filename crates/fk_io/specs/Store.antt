@@ -1,5 +1,5 @@
 -- A sink in memory, as a test lays it out.
-use Rattle.std.specs.Prelude.{ℕ, Bool, List, ◌++◌, if◌then◌else◌}
+use Rattle.std.specs.Prelude.{ℕ, List, ◌++◌, if◌then◌else◌}
 use Rattle.fk_io.specs.Supply.{is_listed, one_more}
 
 -- the bytes that it holds, the numbers of the calls that fail, how many calls there were, how many of
@@ -20,4 +20,5 @@ abbrev pub after_failure : Store → Store
 after_failure store = record store {
   calls = one_more store.calls;
   faults = one_more store.faults;
-  starved = if is_listed store.failing store.calls then store.starved else one_more store.starved }
+  starved = if is_listed store.failing store.calls then store.starved else one_more store.starved;
+}

@@ -1,5 +1,5 @@
 -- A source in memory, as a test lays it out.
-use Rattle.std.specs.Prelude.{◌≡◌, ℕ, ◌+◌, ◌==◌, Bool, List, [], ◌∷◌, length, drop, min, max, if◌then◌else◌}
+use Rattle.std.specs.Prelude.{ℕ, ◌+◌, ◌==◌, Bool, List, [], ◌∷◌, length, drop, min, max, if◌then◌else◌}
 use Rattle.std.specs.List.{list_any}
 use Rattle.fk_io.specs.Faults.{last_count}
 
@@ -35,4 +35,8 @@ abbrev pub after_read : Supply → ℕ → Supply
 after_read supply asked =
     if is_listed supply.failing supply.calls
     then record supply { calls = one_more supply.calls; faults = one_more supply.faults }
-    else record supply { left = drop (piece_length supply asked) supply.left; cuts = drop 1 supply.cuts; calls = one_more supply.calls }
+    else record supply {
+      left = drop (piece_length supply asked) supply.left;
+      cuts = drop 1 supply.cuts;
+      calls = one_more supply.calls;
+    }

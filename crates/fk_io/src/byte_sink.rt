@@ -24,18 +24,24 @@ impl Model for ByteSink {
     ghost Value = { Store };
 
     ghost view = { λ s. record {
-        held = s.held.items;
-        failing = s.failing.items;
-        calls = s.calls;
-        faults = s.faults;
-        starved = s.starved } };
+      held = s.held.items;
+      failing = s.failing.items;
+      calls = s.calls;
+      faults = s.faults;
+      starved = s.starved;
+    } };
 }
 
 impl ByteSink {
     /// A sink that holds nothing. The calls with the listed numbers, counted from 0, fail.
     pub fn new(alloc: Global, failing: &[u64]) -> Result<ByteSink, AllocError>
         ensures { IfOk result (λ sink. sink ≡ record {
-            held = []; failing = failing.now; calls = 0; faults = 0; starved = 0 }) }
+          held = [];
+          failing = failing.now;
+          calls = 0;
+          faults = 0;
+          starved = 0;
+        }) }
     {
         Ok(ByteSink {
             held: Vec::new(alloc),
@@ -78,7 +84,8 @@ impl Sink for ByteSink {
     fn put(&mut self, piece: &[u8]) -> Result<usize, Failed>
         ensures count { IfOk result (λ n. n ≤ length piece.now) }
         ensures some { piece.now ≢ [] → IfOk result (λ n. 1 ≤ n) }
-        ensures gained { IfOk result (λ n. Gained (Some self.old.held) (take n piece.now) (Some self.new.held)) }
+        ensures gained { IfOk result (λ n.
+            Gained (Some self.old.held) (take n piece.now) (Some self.new.held)) }
         ensures same { OnErr result (Some self.new.held ≡ Some self.old.held) }
         ensures cause { HasCause self.old.faults self.new.faults result }
 
@@ -100,5 +107,27 @@ impl Sink for ByteSink {
             return Err(Failed);
         }
         Ok(piece.len())
+    }
+}
+
+#[cfg(test)]
+mod tests {
+    use super::*;
+    use std::test::Fail;
+
+    #[test]
+    fn a_listed_call_writes_nothing_and_the_next_one_goes_on(rt: HostRuntime) -> Result<(), Fail> {
+        let mut sink = ByteSink::new(rt.alloc(), &[1])?;
+        for (piece, want) in [
+            (b"ab".as_slice(), Ok(2)),
+            (b"cd".as_slice(), Err(Failed)),
+            (b"".as_slice(), Ok(0)),
+            (b"ef".as_slice(), Ok(2)),
+        ] {
+            assert_eq!(rt; sink.put(piece), want);
+        }
+        assert_eq!(rt; sink.bytes(), b"abef".as_slice());
+        assert_eq!(rt; sink.starved(), 0);
+        Ok(())
     }
 }

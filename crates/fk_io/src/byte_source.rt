@@ -1,7 +1,7 @@
 ghost use Rattle.std.specs.Prelude.{◌≡◌, ◌≢◌, ◌≤◌, [], None, Some, Ok, length, take, drop, is_ok, not, IfOk, OnErr};
 ghost use Rattle.fk_io.specs.Content.{Took, IsAtEnd};
 ghost use Rattle.fk_io.specs.Faults.{HasCause};
-ghost use Rattle.fk_io.specs.Supply.{is_listed, piece_length, after_read};
+ghost use Rattle.fk_io.specs.Supply.{is_listed, piece_length, one_more, after_read};
 
 use crate::{Failed, Source, raised};
 use std::alloc::{AllocError, Global};
@@ -23,15 +23,19 @@ pub struct ByteSource {
 impl Model for ByteSource {
     ghost use Rattle.std.specs.Prelude.{drop};
     ghost use Rattle.fk_io.specs.Supply.{Supply};
+    ghost use Rattle.fk_io.specs.Progress.{IsWithin};
 
     ghost Value = { Supply };
 
     ghost view = { λ s. record {
-        left = drop s.given s.bytes.items;
-        cuts = drop s.cuts_used s.cuts.items;
-        failing = s.failing.items;
-        calls = s.calls;
-        faults = s.faults } };
+      left = drop s.given s.bytes.items;
+      cuts = drop s.cuts_used s.cuts.items;
+      failing = s.failing.items;
+      calls = s.calls;
+      faults = s.faults;
+    } };
+
+    ghost invariant = { λ s. IsWithin s.bytes.items s.given s.cuts.items s.cuts_used };
 }
 
 impl ByteSource {
@@ -45,7 +49,12 @@ impl ByteSource {
         failing: &[u64],
     ) -> Result<ByteSource, AllocError>
         ensures { IfOk result (λ source. source ≡ record {
-            left = bytes.now; cuts = cuts.now; failing = failing.now; calls = 0; faults = 0 }) }
+          left = bytes.now;
+          cuts = cuts.now;
+          failing = failing.now;
+          calls = 0;
+          faults = 0;
+        }) }
     {
         Ok(ByteSource {
             bytes: Vec::from_slice(alloc, bytes)?,
@@ -76,6 +85,28 @@ impl ByteSource {
         };
         most.min(self.bytes.len() - self.given)
     }
+
+    /// The next piece for a buffer of this length.
+    fn piece(&self, asked: usize) -> &[u8]
+        ensures { result.now ≡ take (piece_length self.now asked) self.now.left }
+    {
+        let n = self.piece_length(asked);
+        &self.bytes[self.given..self.given + n]
+    }
+
+    /// Goes past the next bytes, which uses up a cut and a call.
+    fn go_past(&mut self, n: usize)
+        requires { n ≤ length self.old.left }
+        ensures { self.new ≡ record self.old {
+          left = drop n self.old.left;
+          cuts = drop 1 self.old.cuts;
+          calls = one_more self.old.calls;
+        } }
+    {
+        self.given += n;
+        self.cuts_used = (self.cuts_used + 1).min(self.cuts.as_slice().len());
+        self.calls = raised(self.calls);
+    }
 }
 
 impl Source for ByteSource {
@@ -84,9 +115,11 @@ impl Source for ByteSource {
     ghost read_faults = { λ s. s.faults };
 
     /// A listed call fails. Any other gives the next piece.
+    #[tactic(auto, using(crate::proofs::Pieces::front_then_rest))]
     fn take(&mut self, into: &mut [u8]) -> Result<usize, Failed>
         ensures count { IfOk result (λ n. n ≤ length into.new) }
-        ensures taken { IfOk result (λ n. Took (Some self.old.left) (take n into.new) (Some self.new.left)) }
+        ensures taken { IfOk result (λ n.
+            Took (Some self.old.left) (take n into.new) (Some self.new.left)) }
         ensures rest { IfOk result (λ n. drop n into.new ≡ drop n into.old) }
         ensures end { result ≡ Ok 0 → into.old ≢ [] → IsAtEnd (Some self.old.left) }
         ensures same { OnErr result (Some self.new.left ≡ Some self.old.left) }
@@ -97,18 +130,40 @@ impl Source for ByteSource {
         ensures piece { IfOk result (λ n. n ≡ piece_length self.old (length into.old)) }
         ensures after { self.new ≡ after_read self.old (length into.old) }
     {
-        let fails = self.is_failing();
-        self.calls = raised(self.calls);
-        if fails {
+        if self.is_failing() {
+            self.calls = raised(self.calls);
             self.faults = raised(self.faults);
             return Err(Failed);
         }
-        let n = self.piece_length(into.len());
-        into[..n].copy_from_slice(&self.bytes[self.given..self.given + n]);
-        self.given += n;
-        if self.cuts_used < self.cuts.len() {
-            self.cuts_used += 1;
-        }
+        let piece = self.piece(into.len());
+        let n = piece.len();
+        into[..n].copy_from_slice(piece);
+        self.go_past(n);
         Ok(n)
+    }
+}
+
+#[cfg(test)]
+mod tests {
+    use super::*;
+    use std::test::Fail;
+
+    #[test]
+    fn the_bytes_come_in_pieces_and_go_on_after_a_listed_call(rt: HostRuntime) -> Result<(), Fail> {
+        let mut source = ByteSource::new(rt.alloc(), b"abcdefgh", &[2, 0, 3], &[2])?;
+        let mut buffer = [0; 8];
+        let wanted = [
+            Ok(b"ab".as_slice()),
+            Ok(b"c".as_slice()),
+            Err(Failed),
+            Ok(b"def".as_slice()),
+            Ok(b"gh".as_slice()),
+            Ok(b"".as_slice()),
+        ];
+        for want in wanted {
+            let piece = source.take(&mut buffer).map(|n| &buffer[..n]);
+            assert_eq!(rt; piece, want);
+        }
+        Ok(())
     }
 }

@@ -1,5 +1,8 @@
 ghost use Rattle.std.specs.Prelude.{◌≡◌, ◌+◌, min};
 ghost use Rattle.fk_io.specs.Faults.{last_count};
+ghost use Rattle.fk_io.specs.declared.fault.Ended.TheVariants.{NoMemory};
+
+use std::alloc::AllocError;
 
 /// A call to the outside failed. The object that was called has counted it.
 #[derive(Clone, Copy, Debug, PartialEq, Eq)]
@@ -18,6 +21,14 @@ pub enum Ended {
     Spent,
     /// The connection found no memory for itself.
     NoMemory,
+}
+
+impl From<AllocError> for Ended {
+    ghost from_gives = { λ _ ended. ended ≡ NoMemory };
+
+    fn from(_: AllocError) -> Self {
+        Ended::NoMemory
+    }
 }
 
 /// A count of faults after one more. It stands still at the last count that a `u64` holds.

@@ -22,7 +22,8 @@ pub trait Sink {
     fn put(&mut self, piece: &[u8]) -> Result<usize, Failed>
         ensures count { IfOk result (λ n. n ≤ length piece.now) }
         ensures some { piece.now ≢ [] → IfOk result (λ n. 1 ≤ n) }
-        ensures gained { IfOk result (λ n. Gained (held self.old) (take n piece.now) (held self.new)) }
+        ensures gained { IfOk result (λ n.
+            Gained (held self.old) (take n piece.now) (held self.new)) }
         ensures same { OnErr result (held self.new ≡ held self.old) }
         ensures cause { HasCause (write_faults self.old) (write_faults self.new) result }
         ensures apart { source_side self.new ≡ source_side self.old };

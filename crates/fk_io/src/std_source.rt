@@ -14,7 +14,10 @@ pub struct StdSource<R: Input> {
 
 impl<R: Input> Drop for StdSource<R> {
     fn drop(self) {
-        let StdSource { reader: _, faults: _ } = self;
+        let StdSource {
+            reader: _,
+            faults: _,
+        } = self;
     }
 }
 
