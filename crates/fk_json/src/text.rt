@@ -100,3 +100,39 @@ impl PartialEq for Text {
 impl Eq for Text {
     ghost laws = { nat_list_eq_equiv };
 }
+
+#[cfg(test)]
+mod tests {
+    use super::*;
+    use std::test::Fail;
+
+    #[test]
+    fn a_fixed_text_and_an_owned_one_grow_alike(rt: HostRuntime) -> Result<(), Fail> {
+        let fixed = Text::fixed(rt.alloc(), b"OK");
+        let mut grown = Text::fixed(rt.alloc(), b"OK");
+        let mut owned = Text::copy(rt.alloc(), b"OK")?;
+        assert!(rt; fixed == owned);
+        grown.push_bytes(b" 1")?;
+        owned.push_bytes(b" 1")?;
+        assert_eq!(rt; grown.bytes(), b"OK 1".as_slice());
+        assert_eq!(rt; owned.bytes(), b"OK 1".as_slice());
+        grown.push_bytes(b"!")?;
+        assert_eq!(rt; grown.bytes(), b"OK 1!".as_slice());
+        assert_eq!(rt; fixed.bytes(), b"OK".as_slice());
+        Ok(())
+    }
+
+    #[test]
+    fn a_copy_stays_when_the_text_grows(rt: HostRuntime) -> Result<(), Fail> {
+        let mut text = Text::fixed(rt.alloc(), b"ab");
+        let first = text.copied()?;
+        text.push_bytes(b"c")?;
+        let second = text.copied()?;
+        assert!(rt; first != text);
+        assert!(rt; second == text);
+        assert_eq!(rt; (first.len(), second.len()), (2, 3));
+        assert!(rt; Text::copy(rt.alloc(), b"")?.is_empty());
+        assert!(rt; !second.is_empty());
+        Ok(())
+    }
+}
