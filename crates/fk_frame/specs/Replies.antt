@@ -1,5 +1,5 @@
 -- Replies as bytes, after Faktory's protocol, "Server replies": the forms of Redis' RESP protocol without integers and arrays.
-use Rattle.std.specs.Prelude.{◌≡◌, ℕ, ◌<◌, ◌^◌, List, ◌++◌, length, codes, All, Contains}
+use Rattle.std.specs.Prelude.{ℕ, ◌<◌, ◌^◌, List, ◌++◌, length, codes, Contains}
 use Rattle.std.specs.Fmt.{decimal}
 use Rattle.fk_frame.specs.declared.reply.Reply.{Reply}
 use Rattle.fk_frame.specs.declared.reply.Reply.TheVariants.{Status, Error, Bulk, Nil}

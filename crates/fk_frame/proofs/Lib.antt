@@ -1,0 +1,4 @@
+mod Scans
+mod Apart
+pub mod Lines
+pub mod OneLine
