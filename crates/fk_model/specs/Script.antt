@@ -1,6 +1,6 @@
 -- The script of a stream: what is answered to it, and what is kept of it, on a connection of its own.
-use Rattle.std.specs.Prelude.{◌≡◌, ℕ, ◌&&◌, Bool, List, [], ◌∷◌, ◌++◌, Option, None, Some, codes, if◌then◌else◌}
-use Rattle.std.specs.List.{flat_map}
+use Rattle.std.specs.Prelude.{◌≡◌, ℕ, Bool, true, List, [], ◌∷◌, ◌++◌, Option, None, Some, codes, if◌then◌else◌}
+use Rattle.std.specs.List.{flat_map, list_any}
 use Rattle.std.specs.Option.{option_to_list}
 use Rattle.fk_json.specs.Plain.{is_plain_form}
 use Rattle.fk_frame.specs.declared.reply.Reply.{Reply}
@@ -47,13 +47,13 @@ handshake_item line =
     (if has_verb (codes "HELLO") line then not_served else refused (codes "ERR HELLO first"))
 
 -- what a line gives: nothing from END on
-abbrev pub item_of : Phase → List ℕ → Option Item
+unfoldable pub item_of : Phase → List ℕ → Option Item
 item_of Greeted line = if has_verb (codes "END") line then None else Some (handshake_item line)
 item_of Accepted line = if has_verb (codes "END") line then None else Some (command_item line)
 item_of Over line = None
 
 -- how far the talk has come behind a line
-abbrev pub phase_after : Phase → List ℕ → Phase
+unfoldable pub phase_after : Phase → List ℕ → Phase
 phase_after Greeted line = if has_verb (codes "END") line then Over else (if is_plain_hello line then Accepted else Greeted)
 phase_after Accepted line = if has_verb (codes "END") line then Over else Accepted
 phase_after Over line = Over
@@ -72,9 +72,9 @@ phase_from phase (line ∷ lines) = phase_from (phase_after phase line) lines
 abbrev pub script : List ℕ → List Item
 script bytes = items_from Greeted (lines_of bytes)
 
--- the client has said END
+-- the client has said END, in a whole line
 abbrev pub IsOver : List ℕ → Type 0
-IsOver bytes = phase_from Greeted (lines_of bytes) ≡ Over
+IsOver bytes = list_any (has_verb (codes "END")) (lines_of bytes) ≡ true
 
 -- the replies' bytes, one behind the other
 abbrev pub replies : List Item → List ℕ
