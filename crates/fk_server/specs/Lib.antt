@@ -1,2 +1,4 @@
 pub mod Words
+pub mod OneLine
 pub mod Session
+pub mod Answering

@@ -7,52 +7,60 @@ use Rattle.fk_io.specs.Faults.{Rose}
 use Rattle.fk_model.specs.Script.{script, output, kept_texts, IsOver}
 use Rattle.fk_server.specs.declared.session.TheConstants.{PIECE, TAKEN_MAX}
 
--- what a session's input, output and list of kept texts tell
-pub record Outside : Type 0 where
+-- what a session's input, its output and its list of kept texts tell
+pub record Setting : Type 0 where
   pub left : Option (List ℕ)
   pub read_faults : ℕ
   pub held : Option (List ℕ)
   pub write_faults : ℕ
   pub kept : List (List ℕ)
 
--- one list begins another
+abbrev pub setting : Option (List ℕ) → ℕ → Option (List ℕ) → ℕ → List (List ℕ) → Setting
+setting left read_faults held write_faults kept = record {
+  left = left; read_faults = read_faults; held = held; write_faults = write_faults; kept = kept }
+
+-- one list begins another, or is all of it
 abbrev pub Begins : List ℕ → List ℕ → Type 0
 Begins front whole = (rest : List ℕ) × (whole ≡ front ++ rest)
 
--- every reply to the bytes taken was written whole, and every text of them is kept that is to be
-pub record IsAnswered (old new : Outside) (taken written : List ℕ) : Type 0 where
+-- one list begins another, and is less than all of it
+abbrev pub IsPartOf : List ℕ → List ℕ → Type 0
+IsPartOf front whole = (rest : List ℕ) × (0 < length rest) × (whole ≡ front ++ rest)
+
+-- the greeting and every reply to the bytes taken was written whole, and every text of them is kept that is to be
+pub record IsAnswered (old new : Setting) (taken written : List ℕ) : Type 0 where
   pub replies : written ≡ output taken
   pub kept : new.kept ≡ old.kept ++ kept_texts (script taken)
 
--- Nothing is read before all that came before it was answered, nor behind END: either nothing was taken, or
--- the bytes taken are some that didn't have END and were answered, and then one piece.
+-- At most the last piece of the bytes taken may be without its answer, and no END stands before that piece:
+-- either nothing was taken, or some bytes without END, to which all was written, and then at most a piece.
 abbrev pub IsPrompt : List ℕ → List ℕ → Type 0
 IsPrompt taken written = (taken ≡ []) ⊎ ((before piece : List ℕ) × (taken ≡ before ++ piece)
     × (length piece ≤ PIECE) × ¬ IsOver before × Begins (output before) written)
 
--- the input was read to its end: a read was made, and nothing was to come
-abbrev pub IsReadToEnd : Outside → List ℕ → Type 0
+-- more might have been taken, and nothing was to come, where that is told
+abbrev pub IsReadToEnd : Setting → List ℕ → Type 0
 IsReadToEnd new taken = (length taken < TAKEN_MAX) × IsAtEnd new.left
 
 -- what each end says
-abbrev pub HasEnded : Ended → Outside → Outside → List ℕ → List ℕ → Type 0
+abbrev pub HasEnded : Ended → Setting → Setting → List ℕ → List ℕ → Type 0
 -- all was answered, and the client said END or has no more to say
 HasEnded Closed old new taken written =
     IsAnswered old new taken written × (IsOver taken ⊎ (¬ IsOver taken × IsReadToEnd new taken))
 -- all was answered, and the next read failed
 HasEnded ReadFault old new taken written =
     IsAnswered old new taken written × ¬ IsOver taken × (length taken < TAKEN_MAX) × Rose old.read_faults new.read_faults
--- a write failed: the replies were written up to some byte
+-- a write failed: the greeting and the replies were written up to some byte, and not to their end
 HasEnded WriteFault old new taken written =
-    Begins written (output taken) × Rose old.write_faults new.write_faults
+    IsPartOf written (output taken) × Rose old.write_faults new.write_faults
 -- all was answered, and no more bytes may be read
 HasEnded Spent old new taken written =
     IsAnswered old new taken written × ¬ IsOver taken × (length taken ≡ TAKEN_MAX)
--- memory ran out: the replies were written up to some byte
+-- memory ran out: the greeting and the replies were written up to some byte
 HasEnded NoMemory old new taken written = Begins written (output taken)
 
 -- the session took these bytes and wrote those, and ended so
-pub record Serves (ended : Ended) (old new : Outside) (taken written : List ℕ) : Type 0 where
+pub record Serves (ended : Ended) (old new : Setting) (taken written : List ℕ) : Type 0 where
   pub took : Took old.left taken new.left
   pub gained : Gained old.held written new.held
   pub within : length taken ≤ TAKEN_MAX
@@ -60,7 +68,7 @@ pub record Serves (ended : Ended) (old new : Outside) (taken written : List ℕ)
   pub outcome : HasEnded ended old new taken written
 
 -- there was such a session
-abbrev pub IsSession : Ended → Outside → Outside → Type 0
+abbrev pub IsSession : Ended → Setting → Setting → Type 0
 IsSession ended old new = (taken written : List ℕ) × Serves ended old new taken written
 
 -- the exit status of a session's end
@@ -72,5 +80,5 @@ status_of Spent = 7
 status_of NoMemory = 8
 
 -- a session ended with this status
-abbrev pub IsServed : ℕ → Outside → Outside → Type 0
+abbrev pub IsServed : ℕ → Setting → Setting → Type 0
 IsServed status old new = (ended : Ended) × (status ≡ status_of ended) × IsSession ended old new

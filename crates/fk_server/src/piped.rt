@@ -1,6 +1,6 @@
 ghost use Rattle.std.specs.Prelude.{◌≡◌, ◌↔◌, IsTrue};
 ghost use Rattle.fk_server.specs.Words.{AreValid};
-ghost use Rattle.fk_server.specs.Session.{IsServed, status_of};
+ghost use Rattle.fk_server.specs.Session.{IsServed, setting, status_of};
 
 use crate::session::serve;
 use fk_io::{Ended, Sink, Source};
@@ -29,10 +29,10 @@ pub fn pipe<S: Source, K: Sink>(
 
     // With valid words, one session was served.
     ensures served { AreValid words.now → IsServed result
-        (record { left = S.left input.old; read_faults = S.read_faults input.old;
-            held = K.held output.old; write_faults = K.write_faults output.old; kept = kept.old })
-        (record { left = S.left input.new; read_faults = S.read_faults input.new;
-            held = K.held output.new; write_faults = K.write_faults output.new; kept = kept.new }) }
+        (setting (S.left input.old) (S.read_faults input.old)
+            (K.held output.old) (K.write_faults output.old) kept.old)
+        (setting (S.left input.new) (S.read_faults input.new)
+            (K.held output.new) (K.write_faults output.new) kept.new) }
 {
     if !are_valid(words) {
         return USAGE;

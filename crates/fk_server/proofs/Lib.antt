@@ -1,0 +1,6 @@
+pub mod Places
+pub mod OneLine
+pub mod Writing
+pub mod Answering
+pub mod Ends
+pub mod Words

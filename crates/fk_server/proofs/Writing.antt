@@ -1,0 +1,53 @@
+-- Bytes that are written in steps.
+use Rattle.std.proofs.Common.{◌≡◌, ℕ, ◌+◌, ◌≤◌, List, [], ◌++◌, length, refl, ap, sym, ◌∙◌, arith, append_assoc, length-append}
+use Rattle.fk_io.specs.declared.fault.Ended.{Ended}
+use Rattle.fk_io.specs.declared.fault.Ended.TheVariants.{Closed, ReadFault, WriteFault, Spent, NoMemory}
+use Rattle.fk_io.proofs.Content.{gained_nothing, gained_both}
+use Rattle.fk_io.proofs.Faults.{on_then_rose}
+use Rattle.fk_server.specs.Session.{Begins, IsPartOf}
+use Rattle.fk_server.specs.Answering.{Written, Wrote, Starved, Broke, Stops}
+
+-- nothing was written
+pub wrote_nothing : (out : Written) → Wrote out out []
+wrote_nothing out = record { gained = gained_nothing out.held; later = omega arith }
+
+-- some bytes were written, and then more
+pub wrote_both : (old mid new : Written) (xs ys : List ℕ) → Wrote old mid xs → Wrote mid new ys → Wrote old new (xs ++ ys)
+wrote_both old mid new xs ys first second = record {
+  gained = gained_both old.held mid.held new.held xs ys first.gained second.gained;
+  later = let before = first.later in let behind = second.later in omega arith }
+
+-- memory ran out before anything was written
+pub starved_at_once : (out : Written) (bytes : List ℕ) → Starved out out bytes
+starved_at_once out bytes = record { part = []; begins = (bytes, refl); gained = gained_nothing out.held }
+
+-- what begins a list begins it behind another one, too
+pub begins_behind : (xs front whole : List ℕ) → Begins front whole → Begins (xs ++ front) (xs ++ whole)
+begins_behind xs front whole (rest, is) = (rest, ap (λ s. xs ++ s) is ∙ sym (append_assoc xs front rest))
+
+pub part_behind : (xs front whole : List ℕ) → IsPartOf front whole → IsPartOf (xs ++ front) (xs ++ whole)
+part_behind xs front whole (rest, some, is) = (rest, some, ap (λ s. xs ++ s) is ∙ sym (append_assoc xs front rest))
+
+-- what begins a list begins it also where more follows
+pub begins_more : (front whole more : List ℕ) → Begins front whole → Begins front (whole ++ more)
+begins_more front whole more (rest, is) = (rest ++ more, ap (λ s. s ++ more) is ∙ append_assoc front rest more)
+
+pub part_of_more : (front whole more : List ℕ) → IsPartOf front whole → IsPartOf front (whole ++ more)
+part_of_more front whole more (rest, some, is) =
+    (rest ++ more, omega (arith, length-append rest more), ap (λ s. s ++ more) is ∙ append_assoc front rest more)
+
+-- some bytes were written, and then a step gave up at more
+pub stops_behind : (ended : Ended) (old mid new : Written) (xs ys : List ℕ)
+  → Wrote old mid xs → Stops ended mid new ys → Stops ended old new (xs ++ ys)
+stops_behind Closed old mid new xs ys first stops = stops
+stops_behind ReadFault old mid new xs ys first stops = stops
+stops_behind WriteFault old mid new xs ys first stops = record {
+  part = xs ++ stops.part;
+  is_part = part_behind xs stops.part ys stops.is_part;
+  gained = gained_both old.held mid.held new.held xs stops.part first.gained stops.gained;
+  rose = on_then_rose old.faults mid.faults new.faults first.later stops.rose }
+stops_behind Spent old mid new xs ys first stops = stops
+stops_behind NoMemory old mid new xs ys first stops = record {
+  part = xs ++ stops.part;
+  begins = begins_behind xs stops.part ys stops.begins;
+  gained = gained_both old.held mid.held new.held xs stops.part first.gained stops.gained }

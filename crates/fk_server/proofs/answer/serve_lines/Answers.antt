@@ -1,0 +1,23 @@
+use Rattle.std.proofs.lemmas.Result.{err_from_is_err_and}
+use Rattle.fk_frame.specs.Reading.{IsFirstLine}
+use Rattle.fk_server.proofs.Answering.{answers_nothing, answers_line, stops_at_line}
+use Rattle.fk_server.proofs.answer.serve_lines.Goals as goal
+
+pub lines-init : goal.lines-init
+lines-init g c = answers_nothing _
+
+pub returns-in_err-serve_line-in-Whole-clause-err : goal.returns-in_err-serve_line-in-Whole-clause-err
+returns-in_err-serve_line-in-Whole-clause-err g c =
+    let residual = c.from_residual-in_err-serve_line-in-Whole in
+    let p = err_from_is_err_and residual.result residual.ensures.1 in
+    let first : IsFirstLine c.lines.lines c.in-Whole.line c.next.new.self = rw c.in-Whole.is at c.in_ok-next.ensures.ok in
+    let stops = rw c.bytes.ensures at c.in_err-serve_line-in-Whole.ensures.err in
+    rw (p.1, p.2) (stops_at_line _ _ _ _ _ _ c.lines.invariant first stops)
+
+pub lines-preserved : goal.lines-preserved
+lines-preserved g c =
+    let first : IsFirstLine c.lines.lines c.in-Whole.line c.next.new.self = rw c.in-Whole.is at c.in_ok-next.ensures.ok in
+    answers_line _ _ _ c.in-Whole.line c.lines.invariant first
+    (rw c.bytes.ensures at c.in_ok-serve_line-in-Whole.ensures.phase)
+    (rw c.bytes.ensures at c.in_ok-serve_line-in-Whole.ensures.ok)
+    (rw c.bytes.ensures at c.in_ok-serve_line-in-Whole.ensures.keeps)

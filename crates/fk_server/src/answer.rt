@@ -1,0 +1,112 @@
+ghost use Rattle.std.specs.Prelude.{◌≡◌, ◌++◌, IfErr, OnOk, OnErr};
+ghost use Rattle.std.specs.Option.{option_to_list};
+ghost use Rattle.fk_frame.specs.Replies.{reply_bytes, IsReply};
+ghost use Rattle.fk_model.specs.Advance.{IsIdle};
+ghost use Rattle.fk_model.specs.Script.{item_of as given, phase_after as phase_behind, replies, kept_texts};
+ghost use Rattle.fk_server.specs.Answering.{written, standing, Wrote, Stops, Answers, StopsAnswering};
+
+use crate::talk::{item_of, phase_after};
+use fk_frame::{Line, LineReader, write_reply};
+use fk_io::{Ended, Sink};
+use fk_json::{Text, Texts};
+use fk_model::{Item, Phase};
+use std::alloc::{AllocError, Global};
+
+/// Writes all of the bytes, or up to where a write fails.
+pub fn write_all<K: Sink>(output: &mut K, bytes: &[u8]) -> Result<(), Ended>
+    ensures ok { OnOk result (Wrote (written (K.held output.old) (K.write_faults output.old))
+        (written (K.held output.new) (K.write_faults output.new)) bytes.now) }
+    ensures err { IfErr result (λ ended. Stops ended (written (K.held output.old) (K.write_faults output.old))
+        (written (K.held output.new) (K.write_faults output.new)) bytes.now) }
+{
+    let mut at = 0;
+    while at < bytes.len() {
+        match output.put(bytes.split_at(at).1) {
+            Ok(count) => at += count,
+            Err(_) => return Err(Ended::WriteFault),
+        }
+    }
+    Ok(())
+}
+
+/// Adds a text to the list, if there is one.
+fn keep(kept: &mut Texts, text: Option<Text>) -> Result<(), AllocError>
+    ensures ok { OnOk result (kept.new ≡ kept.old ++ option_to_list text) }
+    ensures err { OnErr result (kept.new ≡ kept.old) }
+{
+    match text {
+        Some(text) => kept.push(text),
+        None => Ok(()),
+    }
+}
+
+/// Does what a line asks for: its text is kept, and then its reply is written.
+pub fn answer<K: Sink>(
+    alloc: Global,
+    item: Item,
+    output: &mut K,
+    kept: &mut Texts,
+) -> Result<(), Ended>
+    requires { IsReply item.reply }
+    ensures ok { OnOk result (Wrote (written (K.held output.old) (K.write_faults output.old))
+        (written (K.held output.new) (K.write_faults output.new)) (reply_bytes item.reply)) }
+    ensures keeps { OnOk result (kept.new ≡ kept.old ++ option_to_list item.kept) }
+    ensures err { IfErr result (λ ended. Stops ended (written (K.held output.old) (K.write_faults output.old))
+        (written (K.held output.new) (K.write_faults output.new)) (reply_bytes item.reply)) }
+{
+    let Item { reply, kept: text } = item;
+    keep(kept, text)?;
+    let bytes = write_reply(alloc, &reply)?;
+    write_all(output, bytes.bytes())
+}
+
+/// Answers the lines that end in the bytes at hand, in order, up to END.
+pub fn serve_lines<K: Sink>(
+    alloc: Global,
+    phase: &mut Phase,
+    lines: &mut LineReader,
+    output: &mut K,
+    kept: &mut Texts,
+) -> Result<(), Ended>
+    ensures ok { OnOk result (Answers
+        (standing phase.old lines.old (written (K.held output.old) (K.write_faults output.old)) kept.old)
+        (standing phase.new lines.new (written (K.held output.new) (K.write_faults output.new)) kept.new)) }
+    ensures idle { OnOk result (IsIdle phase.new lines.new) }
+    ensures err { IfErr result (λ ended. StopsAnswering ended
+        (standing phase.old lines.old (written (K.held output.old) (K.write_faults output.old)) kept.old)
+        (written (K.held output.new) (K.write_faults output.new))) }
+{
+    'lines: while *phase != Phase::Over {
+        match lines.next()? {
+            Line::Need => return Ok(()),
+            Line::Whole(line) => serve_line(alloc, phase, line.bytes(), output, kept)?,
+        }
+    }
+    Ok(())
+}
+
+/// Answers one line.
+fn serve_line<K: Sink>(
+    alloc: Global,
+    phase: &mut Phase,
+    line: &[u8],
+    output: &mut K,
+    kept: &mut Texts,
+) -> Result<(), Ended>
+    ensures phase { OnOk result (phase.new ≡ phase_behind phase.old line.now) }
+    ensures ok { OnOk result (Wrote (written (K.held output.old) (K.write_faults output.old))
+        (written (K.held output.new) (K.write_faults output.new))
+        (replies (option_to_list (given phase.old line.now)))) }
+    ensures keeps { OnOk result
+        (kept.new ≡ kept.old ++ kept_texts (option_to_list (given phase.old line.now))) }
+    ensures err { IfErr result (λ ended. Stops ended
+        (written (K.held output.old) (K.write_faults output.old))
+        (written (K.held output.new) (K.write_faults output.new))
+        (replies (option_to_list (given phase.old line.now)))) }
+{
+    if let Some(item) = item_of(alloc, *phase, line)? {
+        answer(alloc, item, output, kept)?;
+    }
+    *phase = phase_after(*phase, line);
+    Ok(())
+}
