@@ -1,18 +1,55 @@
-//! The job server's program.
+//! The job server's program: `faktory_server pipe` serves its standard input and output.
 #![tactic(auto)]
 
 use fk_io::{StdSink, StdSource};
 use fk_json::Texts;
-use std::alloc::{AllocError, Global};
+use fk_server::pipe;
+use std::alloc::AllocError;
 use std::process::ExitCode;
+use std::rt::Env;
 use std::{env, io};
 
-/// The status for words that aren't valid.
+/// The exit status for words that aren't valid.
 const USAGE: u8 = 2;
 
-/// The status for want of memory.
+/// The exit status for want of memory.
 const NO_MEMORY: u8 = 8;
 
 fn main(rt: HostRuntime) -> ExitCode {
-    ExitCode::from(0)
+    let status = match words_of(&rt) {
+        Ok(words) => serve(&rt, &words).unwrap_or(NO_MEMORY),
+        Err(error) if error.kind() == io::ErrorKind::OutOfMemory => NO_MEMORY,
+        Err(_) => USAGE,
+    };
+    if status == USAGE {
+        let _ = rt.eprintln("usage: faktory_server pipe | listen | load");
+    }
+    ExitCode::from(status)
+}
+
+/// The words behind the program's name. One that isn't UTF-8 is an error.
+fn words_of<R: Env + AllocGlobal>(rt: &R) -> io::Result<Vec<String>> {
+    let mut words = Vec::new(rt.alloc());
+    for word in env::args(rt)?.skip(1) {
+        words.push(word)?;
+    }
+    Ok(words)
+}
+
+/// Serves the standard input and output by these words, and answers the exit status.
+fn serve<R: Input + Print + AllocGlobal>(rt: &R, words: &Vec<String>) -> Result<u8, AllocError> {
+    let mut texts = Vec::new(rt.alloc());
+    for word in words {
+        texts.push(word.as_str())?;
+    }
+    let mut kept = Texts::new(rt.alloc());
+    let mut input = StdSource::new(rt);
+    let mut output = StdSink::new(rt);
+    Ok(pipe(
+        rt.alloc(),
+        &texts,
+        &mut input,
+        &mut output,
+        &mut kept,
+    ))
 }
