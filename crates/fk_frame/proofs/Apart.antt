@@ -1,14 +1,15 @@
 -- What tells the bytes of two replies apart, whatever comes behind them.
-use Rattle.std.proofs.Common.{◌≡◌, ℕ, ◌^◌, ◌<◌, ◌≤◌, List, ◌∷◌, ◌++◌, length, take, drop, false, Bool, arith, get_or, refl, sym, ap, ◌∙◌, nat_eq}
-use Rattle.std.specs.List.{All, Contains, slice_split}
+use Rattle.std.proofs.Common.{◌≡◌, ℕ, ◌^◌, ◌<◌, ◌≤◌, List, ◌∷◌, ◌++◌, length, take, drop, true, false, Bool, inl, inr, arith, get_or, refl, sym, ap, ◌∙◌, nat_eq}
+use Rattle.std.specs.List.{All, slice_split}
 use Rattle.std.specs.Fmt.{decimal}
-use Rattle.std.proofs.lemmas.Bool.{ne_eqb}
+use Rattle.std.proofs.lemmas.Bool.{ne_eqb, cases_Bool}
 use Rattle.std.proofs.lemmas.Fmt.{decimal_is_IsNumeral, decimal_injective, decimal_nonempty}
 use Rattle.std.proofs.lemmas.List.{append_assoc, append_cancel_left, get_or_default, get_or_append_left, take_at, drop_at}
 use Rattle.std.proofs.lemmas.List.Splits.{slice_split_at}
+use Rattle.std.proofs.lemmas.List.Sums.{AllPass-from_list_all}
 use Rattle.std.proofs.lemmas.Str.Parse.{digit_at}
 use Rattle.fk_frame.specs.Bytes.{carriage_return, line_end}
-use Rattle.fk_frame.specs.Replies.{reply_bytes, IsReply, IsOneLine, FitsMemory}
+use Rattle.fk_frame.specs.Replies.{reply_bytes, is_within_line, IsWellFormed, IsOneLine, FitsMemory}
 use Rattle.fk_frame.specs.declared.reply.Reply.{Reply}
 use Rattle.fk_frame.specs.declared.reply.Reply.TheVariants.{Status, Error, Bulk, Nil}
 
@@ -19,8 +20,16 @@ is_return byte = nat_eq byte carriage_return
 abbrev HasNoReturn : List ℕ → Type 0
 HasNoReturn text = All (λ byte. is_return byte ≡ false) text
 
-no_return : (text : List ℕ) → ¬ Contains text carriage_return → HasNoReturn text
-no_return text none k d lt = ne_eqb _ _ (λ e. none (k, lt, get_or_default text k carriage_return d lt ∙ e))
+-- a byte within a line is no CR
+not_a_return : (byte : ℕ) → is_within_line byte ≡ true → is_return byte ≡ false
+not_a_return byte passes =
+    elim (cases_Bool (is_return byte)) [
+      | inl is ↦ let no = rw is at passes in cc
+      | inr not ↦ not
+    ]
+
+no_return : (text : List ℕ) → IsOneLine text → HasNoReturn text
+no_return text one k d lt = not_a_return _ (AllPass-from_list_all is_within_line text one k d lt)
 
 -- a number in decimal is digits
 digit : (n k : ℕ) (d : ℕ) → n < 2 ^ 64 → k < length (decimal n) → 48 ≤ get_or (decimal n) k d
@@ -48,7 +57,7 @@ cut a b x y free_a free_b e =
 one_line : (a b x y : List ℕ) → IsOneLine a → IsOneLine b
     → (a ++ line_end) ++ x ≡ (b ++ line_end) ++ y → (a ≡ b) × (x ≡ y)
 one_line a b x y line_a line_b e =
-    let cuts = cut a b (10 ∷ x) (10 ∷ y) (no_return a line_a.no_return) (no_return b line_b.no_return)
+    let cuts = cut a b (10 ∷ x) (10 ∷ y) (no_return a line_a) (no_return b line_b)
     (simp append_assoc at e) in
     (cuts.0, cc (cuts.1))
 
@@ -84,7 +93,8 @@ bulk a b x y fits_a fits_b e =
 not_nil : (a x y : List ℕ) → length a < 2 ^ 64 → bulk_then a x ≡ 45 ∷ y → ⊥
 not_nil a x y fits e =
     let some = decimal_nonempty (length a) fits in
-    let front = get_or_append_left (decimal (length a)) (carriage_return ∷ 10 ∷ (a ++ carriage_return ∷ 10 ∷ x)) 0 0 some in
+    let tail = carriage_return ∷ 10 ∷ (a ++ carriage_return ∷ 10 ∷ x) in
+    let front = get_or_append_left (decimal (length a)) tail 0 0 some in
     let first : get_or (decimal (length a)) 0 0 ≡ 45 = sym front ∙ ap (λ l. get_or l 0 0) e in
     omega (arith, digit (length a) 0 0 fits some)
 
@@ -95,7 +105,7 @@ heads a b x y e = cc
 behind : (a b : ℕ) (x y : List ℕ) → a ∷ x ≡ b ∷ y → x ≡ y
 behind a b x y e = cc
 
-pub apart : (r s : Reply) (x y : List ℕ) → IsReply r → IsReply s → FitsMemory r → FitsMemory s
+pub apart : (r s : Reply) (x y : List ℕ) → IsWellFormed r → IsWellFormed s → FitsMemory r → FitsMemory s
     → reply_bytes r ++ x ≡ reply_bytes s ++ y → (r ≡ s) × (x ≡ y)
 apart (Status a) (Status b) x y p q m n e =
     let texts = one_line a b x y p q (behind 43 43 _ _ e) in (ap Status texts.0, texts.1)

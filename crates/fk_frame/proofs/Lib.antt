@@ -1,4 +1,3 @@
 mod Scans
 mod Apart
 pub mod Lines
-pub mod OneLine

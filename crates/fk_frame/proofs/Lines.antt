@@ -7,7 +7,6 @@ use Rattle.std.proofs.lemmas.List.Splits.{slice_split_none, slice_split_at, leng
 use Rattle.std.proofs.lemmas.List.Sums.{split_at_first, fails_before_first, passes_at_first}
 use Rattle.fk_frame.specs.Bytes.{line_feed, is_line_feed}
 use Rattle.fk_frame.specs.Lines.{lines_of, without_return, all_but_last}
-use Rattle.fk_frame.specs.Reading.{IsFirstLine}
 
 -- a stream without a line feed has no line
 pub no_lines : (stream : List ℕ) → ¬ Contains stream line_feed → lines_of stream ≡ []
@@ -53,12 +52,13 @@ all_but_last_of_more part (next ∷ parts) some =
     rw (long, short) refl
 
 -- the lines of a stream are its first line and those of what is behind that, however the stream goes on
-pub first_then_rest : (stream line rest more : List ℕ) → IsFirstLine stream line rest
-    → lines_of (stream ++ more) ≡ line ∷ lines_of (rest ++ more)
-first_then_rest stream line rest more first =
-    let parts = parts_first stream more first.ended in
-    let behind = slice_split is_line_feed (after_first is_line_feed stream ++ more) in
-    let some : 0 < length behind = omega (arith, length-slice_split is_line_feed (after_first is_line_feed stream ++ more)) in
-    rw (first.front, first.behind)
-    (ap (λ ps. map without_return (all_but_last ps)) parts
-    ∙ ap (map without_return) (all_but_last_of_more (before_first is_line_feed stream) behind some))
+pub first_then_rest : (stream more : List ℕ) → Contains stream line_feed
+    → lines_of (stream ++ more)
+    ≡ without_return (before_first is_line_feed stream) ∷ lines_of (after_first is_line_feed stream ++ more)
+first_then_rest stream more ended =
+    let parts = parts_first stream more ended in
+    let next = after_first is_line_feed stream ++ more in
+    let behind = slice_split is_line_feed next in
+    let some : 0 < length behind = omega (arith, length-slice_split is_line_feed next) in
+    ap (λ ps. map without_return (all_but_last ps)) parts
+    ∙ ap (map without_return) (all_but_last_of_more (before_first is_line_feed stream) behind some)

@@ -1,6 +1,6 @@
 -- A scan that goes on where the last one ended finds what a scan from the front would.
 use Rattle.std.proofs.Common.{◌≡◌, ◌≢◌, ℕ, ◌+◌, ◌-◌, ◌<◌, ◌≤◌, List, length, drop, Some, None, arith, get_or, refl, inl, inr, ap, ◌∙◌}
-use Rattle.std.specs.List.{position, position_or_len, slice_range, Contains}
+use Rattle.std.specs.List.{position, position_or_len, slice_range, before_first, after_first, Contains}
 use Rattle.std.proofs.lemmas.Bool.{cases_lt, ne_eqb, eqb-true, eqb-false}
 use Rattle.std.proofs.lemmas.List.{get_or-drop, drop-drop, length-drop, get_or_default}
 use Rattle.std.proofs.lemmas.List.Sums.{position_or_len_is, fails_before_first, passes_at_first}
@@ -10,6 +10,7 @@ use Rattle.fk_frame.specs.Bytes.{line_feed, is_line_feed}
 use Rattle.fk_frame.specs.Lines.{without_return}
 use Rattle.fk_frame.specs.Reading.{IsFirstLine, HasNoLine}
 use Rattle.fk_frame.specs.Scanned.{IsScanned}
+use Rattle.fk_frame.proofs.Lines.{no_lines, first_then_rest}
 
 -- where no byte passes, the first that does stands past the end
 none_is : (xs : List ℕ) → position is_line_feed xs ≡ None → length xs ≤ position_or_len is_line_feed xs
@@ -58,14 +59,13 @@ pub no_line : (bytes : List ℕ) (from scanned : ℕ) → IsScanned bytes from s
     → position is_line_feed (drop scanned bytes) ≡ None → HasNoLine (drop from bytes) (drop from bytes)
 no_line bytes from scanned seen none =
     let all : IsScanned bytes from (length bytes) = scanned_all bytes from scanned seen none in
-    record {
-      unended = λ held.
-          let within : from + held.0 < length bytes = omega (arith, length-drop {A = ℕ}, held.1) in
-          let here : get_or bytes (from + held.0) line_feed ≡ line_feed = rw get_or-drop at held.2 in
-          all.seen (from + held.0) (omega arith) within
-          (get_or_default bytes (from + held.0) 0 line_feed within ∙ here);
-      same = refl;
-    }
+    let unended : ¬ Contains (drop from bytes) line_feed =
+    λ held.
+        let within : from + held.0 < length bytes = omega (arith, length-drop {A = ℕ}, held.1) in
+        let here : get_or bytes (from + held.0) line_feed ≡ line_feed = rw get_or-drop at held.2 in
+        all.seen (from + held.0) (omega arith) within
+        (get_or_default bytes (from + held.0) 0 line_feed within ∙ here) in
+    record { unended = unended; same = refl; lines = no_lines (drop from bytes) unended }
 
 -- the first line feed behind what was scanned is the first of all
 first_is : (bytes : List ℕ) (from scanned place : ℕ) → IsScanned bytes from scanned
@@ -89,8 +89,15 @@ first_line bytes from scanned place seen found =
     let first = first_is bytes from scanned place seen found in
     let within : position_or_len is_line_feed (drop from bytes) < length (drop from bytes) =
     omega (arith, length-drop {A = ℕ}, here.0) in
+    let ended = has_line (drop from bytes) within in
+    let line = without_return (slice_range bytes from (scanned + place)) in
+    let rest = drop (scanned + place + 1) bytes in
+    let front : line ≡ without_return (before_first is_line_feed (drop from bytes)) = rw first refl in
+    let behind : rest ≡ after_first is_line_feed (drop from bytes) =
+    rw (first, drop-drop) (ap (λ k. drop k bytes) (omega arith)) in
     record {
-      ended = has_line (drop from bytes) within;
-      front = rw first refl;
-      behind = rw (first, drop-drop) (ap (λ k. drop k bytes) (omega arith));
+      ended = ended;
+      front = front;
+      behind = behind;
+      lines = λ more. rw (front, behind) (first_then_rest (drop from bytes) more ended);
     }

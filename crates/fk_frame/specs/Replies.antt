@@ -1,5 +1,7 @@
--- Replies as bytes, after Faktory's protocol, "Server replies": the forms of Redis' RESP protocol without integers and arrays.
-use Rattle.std.specs.Prelude.{ℕ, ◌<◌, ◌^◌, List, ◌++◌, length, codes, Contains}
+-- Replies as bytes, after Faktory's protocol specification: the forms of Redis' RESP that it takes, without
+-- integers and arrays.
+use Rattle.std.specs.Prelude.{ℕ, ◌<◌, ◌^◌, ◌==◌, ◌&&◌, Bool, not, IsTrue, List, ◌++◌, length, codes}
+use Rattle.std.specs.List.{list_all}
 use Rattle.std.specs.Fmt.{decimal}
 use Rattle.fk_frame.specs.declared.reply.Reply.{Reply}
 use Rattle.fk_frame.specs.declared.reply.Reply.TheVariants.{Status, Error, Bulk, Nil}
@@ -13,17 +15,20 @@ reply_bytes (Error text) = codes "-" ++ text ++ line_end
 reply_bytes (Bulk text) = codes "$" ++ decimal (length text) ++ line_end ++ text ++ line_end
 reply_bytes Nil = codes "$-1" ++ line_end
 
+-- neither CR nor LF
+abbrev pub is_within_line : ℕ → Bool
+is_within_line byte = not (byte == carriage_return) && not (byte == line_feed)
+
 -- a text without CR and LF
-pub record IsOneLine (text : List ℕ) : Type 0 where
-  pub no_return : ¬ Contains text carriage_return
-  pub no_feed : ¬ Contains text line_feed
+abbrev pub IsOneLine : List ℕ → Type 0
+IsOneLine text = IsTrue (list_all is_within_line text)
 
 -- a reply that can be told apart: a status and an error are one line
-abbrev pub IsReply : Reply → Type 0
-IsReply (Status text) = IsOneLine text
-IsReply (Error text) = IsOneLine text
-IsReply (Bulk text) = Unit {0}
-IsReply Nil = Unit {0}
+abbrev pub IsWellFormed : Reply → Type 0
+IsWellFormed (Status text) = IsOneLine text
+IsWellFormed (Error text) = IsOneLine text
+IsWellFormed (Bulk text) = Unit {0}
+IsWellFormed Nil = Unit {0}
 
 -- a bulk's length is one that a memory holds
 abbrev pub FitsMemory : Reply → Type 0

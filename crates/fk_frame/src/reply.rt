@@ -1,6 +1,6 @@
 ghost use Rattle.std.specs.Prelude.{◌≡◌, ◌++◌, List, ℕ, IfOk};
 ghost use Rattle.fk_frame.specs.Bytes.{line_end};
-ghost use Rattle.fk_frame.specs.Replies.{reply_bytes, IsReply, FitsMemory};
+ghost use Rattle.fk_frame.specs.Replies.{reply_bytes, IsWellFormed, FitsMemory};
 ghost use Rattle.fk_frame.specs.declared.reply.Reply.{Reply as AReply};
 
 use fk_json::Text;
@@ -21,7 +21,7 @@ pub enum Reply {
 
 /// The bytes of a reply, which end with CR LF.
 pub fn write_reply(alloc: Global, reply: &Reply) -> Result<Text, AllocError>
-    requires { IsReply reply.now }
+    requires { IsWellFormed reply.now }
     ensures { IfOk result (λ text. text ≡ reply_bytes reply.now) }
 {
     match reply {
@@ -45,9 +45,10 @@ fn line(alloc: Global, head: &[u8], text: &[u8]) -> Result<Text, AllocError>
     Ok(whole)
 }
 
-/// A stream of replies can be read in one way only: no reply's bytes begin another reply's.
+/// A stream of replies can be read in one way only: no reply's bytes begin another reply's, where
+/// statuses and errors are one line each and bulks are shorter than 2^64 bytes.
 pub fn no_reply_begins_another()
-    ensures { (r s : AReply) (x y : List ℕ) → IsReply r → IsReply s → FitsMemory r → FitsMemory s
+    ensures { (r s : AReply) (x y : List ℕ) → IsWellFormed r → IsWellFormed s → FitsMemory r → FitsMemory s
         → reply_bytes r ++ x ≡ reply_bytes s ++ y → (r ≡ s) × (x ≡ y) }
 {}
 
@@ -63,7 +64,7 @@ mod tests {
         reply: &Reply,
         bytes: &[u8],
     ) -> Result<(), AllocError>
-        requires { IsReply reply.now }
+        requires { IsWellFormed reply.now }
     {
         assert_eq!(rt; write_reply(alloc, reply)?.bytes(), bytes);
         Ok(())

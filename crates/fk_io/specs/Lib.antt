@@ -1,5 +1,5 @@
 pub mod Content
 pub mod Faults
-pub mod Supply
+pub mod SourceState
 pub mod Progress
-pub mod Store
+pub mod SinkState

@@ -1,7 +1,9 @@
--- How far a source in memory has come.
+-- How far a source in memory has come, and how often it failed.
 use Rattle.std.specs.Prelude.{ℕ, ◌≤◌, List, length}
+use Rattle.fk_io.specs.Faults.{last_count}
 
--- no more bytes were given than there are, and no more cuts used up
-pub record IsWithin (bytes : List ℕ) (given : ℕ) (cuts : List ℕ) (used : ℕ) : Type 0 where
+-- no more bytes were given than there are, no more cuts used up, and the count of faults is one
+pub record IsWithin (bytes : List ℕ) (given : ℕ) (cuts : List ℕ) (used faults : ℕ) : Type 0 where
   pub in_bytes : given ≤ length bytes
   pub in_cuts : used ≤ length cuts
+  pub counted : faults ≤ last_count

@@ -1,8 +1,8 @@
 ghost use Rattle.std.specs.Prelude.{◌≡◌, ◌≢◌, ◌≤◌, [], None, Some, length, take, IfOk, IsErr, IsTrue, OnErr, OnOk};
 ghost use Rattle.fk_io.specs.Content.{Gained};
 ghost use Rattle.fk_io.specs.Faults.{HasCause};
-ghost use Rattle.fk_io.specs.Supply.{is_listed};
-ghost use Rattle.fk_io.specs.Store.{after_write, after_failure};
+ghost use Rattle.fk_io.specs.SourceState.{is_listed};
+ghost use Rattle.fk_io.specs.SinkState.{after_write, after_failure};
 
 use crate::{Failed, Sink, raised};
 use std::alloc::{AllocError, Global};
@@ -19,9 +19,11 @@ pub struct ByteSink {
 }
 
 impl Model for ByteSink {
-    ghost use Rattle.fk_io.specs.Store.{Store};
+    ghost use Rattle.std.specs.Prelude.{◌≤◌};
+    ghost use Rattle.fk_io.specs.Faults.{last_count};
+    ghost use Rattle.fk_io.specs.SinkState.{SinkState};
 
-    ghost Value = { Store };
+    ghost Value = { SinkState };
 
     ghost view = { λ s. record {
       held = s.held.items;
@@ -30,6 +32,8 @@ impl Model for ByteSink {
       faults = s.faults;
       starved = s.starved;
     } };
+
+    ghost invariant = { λ s. s.faults ≤ last_count };
 }
 
 impl ByteSink {

@@ -1,7 +1,7 @@
 ghost use Rattle.std.specs.Prelude.{◌≡◌, ◌≢◌, ◌≤◌, [], None, Some, Ok, length, take, drop, is_ok, not, IfOk, OnErr};
 ghost use Rattle.fk_io.specs.Content.{Took, IsAtEnd};
-ghost use Rattle.fk_io.specs.Faults.{HasCause};
-ghost use Rattle.fk_io.specs.Supply.{is_listed, piece_length, one_more, after_read};
+ghost use Rattle.fk_io.specs.Faults.{HasCause, one_more};
+ghost use Rattle.fk_io.specs.SourceState.{is_listed, piece_length, after_read};
 
 use crate::{Failed, Source, raised};
 use std::alloc::{AllocError, Global};
@@ -22,10 +22,10 @@ pub struct ByteSource {
 
 impl Model for ByteSource {
     ghost use Rattle.std.specs.Prelude.{drop};
-    ghost use Rattle.fk_io.specs.Supply.{Supply};
+    ghost use Rattle.fk_io.specs.SourceState.{SourceState};
     ghost use Rattle.fk_io.specs.Progress.{IsWithin};
 
-    ghost Value = { Supply };
+    ghost Value = { SourceState };
 
     ghost view = { λ s. record {
       left = drop s.given s.bytes.items;
@@ -35,7 +35,7 @@ impl Model for ByteSource {
       faults = s.faults;
     } };
 
-    ghost invariant = { λ s. IsWithin s.bytes.items s.given s.cuts.items s.cuts_used };
+    ghost invariant = { λ s. IsWithin s.bytes.items s.given s.cuts.items s.cuts_used s.faults };
 }
 
 impl ByteSource {

@@ -1,5 +1,5 @@
-ghost use Rattle.std.specs.Prelude.{◌≡◌, ◌+◌, min};
-ghost use Rattle.fk_io.specs.Faults.{last_count};
+ghost use Rattle.std.specs.Prelude.{◌≡◌};
+ghost use Rattle.fk_io.specs.Faults.{one_more};
 ghost use Rattle.fk_io.specs.declared.fault.Ended.TheVariants.{NoMemory};
 
 use std::alloc::AllocError;
@@ -33,7 +33,7 @@ impl From<AllocError> for Ended {
 
 /// A count of faults after one more. It stands still at the last count that a `u64` holds.
 pub fn raised(count: u64) -> u64
-    ensures { result ≡ min (count + 1) last_count }
+    ensures { result ≡ one_more count }
 {
     count.saturating_add(1)
 }

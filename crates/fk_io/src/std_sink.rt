@@ -2,18 +2,31 @@ ghost use Rattle.std.specs.Prelude.{◌≡◌, ◌≤◌, None, length, IfOk};
 
 use crate::{Failed, Sink, raised};
 use std::io::ErrorKind;
+use std::marker::Model;
 
 /// The standard output. Each write goes to the descriptor before it returns, so nothing waits to be
-/// flushed. It tells nothing of its bytes.
+/// flushed. It tells nothing of its bytes, and is seen as its count of faults.
 #[derive(Drop)]
 pub struct StdSink<P: Print + Drop> {
     to: P,
     faults: u64,
 }
 
+impl<P: Print + Drop> Model for StdSink<P> {
+    ghost use Rattle.std.specs.Prelude.{ℕ, ◌≤◌};
+    ghost use Rattle.fk_io.specs.Faults.{last_count};
+
+    ghost Value = { ℕ };
+
+    ghost view = { λ s. s.faults };
+
+    ghost invariant = { λ s. s.faults ≤ last_count };
+}
+
 impl<P: Print + Drop> StdSink<P> {
+    /// The standard output, to which no write has failed yet.
     pub fn new(rt: P) -> StdSink<P>
-        ensures { result.faults ≡ 0 }
+        ensures { result ≡ 0 }
     {
         StdSink { to: rt, faults: 0 }
     }
@@ -39,7 +52,7 @@ fn write_some<P: Print>(to: &P, piece: &[u8]) -> Result<usize, Failed>
 impl<P: Print + Drop> Sink for StdSink<P> {
     ghost held = { λ _. None };
 
-    ghost write_faults = { λ s. s.faults };
+    ghost write_faults = { λ s. s };
 
     fn put(&mut self, piece: &[u8]) -> Result<usize, Failed> {
         match write_some(&self.to, piece) {

@@ -2,14 +2,26 @@ ghost use Rattle.std.specs.Prelude.{◌≡◌, ◌≤◌, None, length, IfOk};
 
 use crate::{Failed, Source, raised};
 use std::io::{ErrorKind, Read};
+use std::marker::Model;
 
 /// The most bytes that one read of the standard input asks for.
 const PIECE: usize = 4096;
 
-/// The standard input. It tells nothing of its bytes.
+/// The standard input. It tells nothing of its bytes, and is seen as its count of faults.
 pub struct StdSource<R: Input> {
     reader: R::Reader,
     faults: u64,
+}
+
+impl<R: Input> Model for StdSource<R> {
+    ghost use Rattle.std.specs.Prelude.{ℕ, ◌≤◌};
+    ghost use Rattle.fk_io.specs.Faults.{last_count};
+
+    ghost Value = { ℕ };
+
+    ghost view = { λ s. s.faults };
+
+    ghost invariant = { λ s. s.faults ≤ last_count };
 }
 
 impl<R: Input> Drop for StdSource<R> {
@@ -22,8 +34,9 @@ impl<R: Input> Drop for StdSource<R> {
 }
 
 impl<R: Input> StdSource<R> {
+    /// The standard input, of which no read has failed yet.
     pub fn new(rt: &R) -> StdSource<R>
-        ensures { result.faults ≡ 0 }
+        ensures { result ≡ 0 }
     {
         StdSource {
             reader: rt.reader(),
@@ -52,7 +65,7 @@ fn read_some<R: Read>(reader: &mut R, into: &mut [u8]) -> Result<usize, Failed>
 impl<R: Input> Source for StdSource<R> {
     ghost left = { λ _. None };
 
-    ghost read_faults = { λ s. s.faults };
+    ghost read_faults = { λ s. s };
 
     fn take(&mut self, into: &mut [u8]) -> Result<usize, Failed> {
         let mut piece = [0; PIECE];

@@ -4,7 +4,6 @@ use Rattle.std.proofs.lemmas.Bool.{cases_Bool}
 use Rattle.std.proofs.lemmas.List.{append-nil}
 use Rattle.std.specs.List.{list_any}
 use Rattle.std.specs.Option.{option_to_list}
-use Rattle.fk_frame.proofs.Lines.{no_lines}
 use Rattle.fk_frame.specs.Lines.{lines_of}
 use Rattle.fk_model.specs.declared.item.Item.{Item}
 use Rattle.fk_model.specs.declared.item.Phase.{Phase}
@@ -102,7 +101,7 @@ phase_is taken items phase rest all (inl over) =
     comes ∙ rw over (phase_from-over (lines_of rest))
 phase_is taken items phase rest all (inr none) =
     let comes = rw (append-nil, append-nil) at (all.comes []) in
-    comes ∙ ap (phase_from phase) (no_lines rest none)
+    comes ∙ ap (phase_from phase) none
 
 -- where no line is left, what was given is the script of what was taken
 pub script_is : (taken : List ℕ) (items : List Item) (phase : Phase) (rest : List ℕ)
@@ -112,7 +111,7 @@ script_is taken items phase rest all (inl over) =
     gives ∙ ap (λ more. items ++ more) (rw over (items_from-over (lines_of rest))) ∙ append-nil items
 script_is taken items phase rest all (inr none) =
     let gives = rw (append-nil, append-nil) at (all.gives []) in
-    gives ∙ ap (λ more. items ++ items_from phase more) (no_lines rest none) ∙ append-nil items
+    gives ∙ ap (λ more. items ++ items_from phase more) none ∙ append-nil items
 
 -- END was said where the talk is over
 pub over_is : (taken : List ℕ) (items : List Item) (rest : List ℕ)

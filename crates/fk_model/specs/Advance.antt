@@ -1,6 +1,5 @@
 -- How a talk goes on while its stream is read in pieces.
-use Rattle.std.specs.Prelude.{◌≡◌, ◌⊎◌, ℕ, List, ◌++◌, Contains}
-use Rattle.fk_frame.specs.Bytes.{line_feed}
+use Rattle.std.specs.Prelude.{◌≡◌, ◌⊎◌, ℕ, List, [], ◌++◌}
 use Rattle.fk_frame.specs.Lines.{lines_of}
 use Rattle.fk_model.specs.declared.item.Item.{Item}
 use Rattle.fk_model.specs.declared.item.Phase.{Phase}
@@ -15,4 +14,4 @@ pub record Advances (from : Phase) (bytes : List ℕ) (items : List Item) (to : 
 
 -- no line is left to be answered: the talk is over, or no line ends in the bytes at hand
 abbrev pub IsIdle : Phase → List ℕ → Type 0
-IsIdle phase bytes = (phase ≡ Over) ⊎ (¬ Contains bytes line_feed)
+IsIdle phase bytes = (phase ≡ Over) ⊎ (lines_of bytes ≡ [])

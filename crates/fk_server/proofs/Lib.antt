@@ -1,5 +1,4 @@
 pub mod Places
-pub mod OneLine
 pub mod Writing
 pub mod Answering
 pub mod Ends

@@ -15,7 +15,8 @@ wrote_nothing out = record { gained = gained_nothing out.held; later = omega ari
 pub wrote_both : (old mid new : Written) (xs ys : List ℕ) → Wrote old mid xs → Wrote mid new ys → Wrote old new (xs ++ ys)
 wrote_both old mid new xs ys first second = record {
   gained = gained_both old.held mid.held new.held xs ys first.gained second.gained;
-  later = let before = first.later in let behind = second.later in omega arith }
+  later = let before = first.later in let behind = second.later in omega arith;
+}
 
 -- memory ran out before anything was written
 pub starved_at_once : (out : Written) (bytes : List ℕ) → Starved out out bytes
@@ -38,16 +39,18 @@ part_of_more front whole more (rest, some, is) =
 
 -- some bytes were written, and then a step gave up at more
 pub stops_behind : (ended : Ended) (old mid new : Written) (xs ys : List ℕ)
-  → Wrote old mid xs → Stops ended mid new ys → Stops ended old new (xs ++ ys)
+    → Wrote old mid xs → Stops ended mid new ys → Stops ended old new (xs ++ ys)
 stops_behind Closed old mid new xs ys first stops = stops
 stops_behind ReadFault old mid new xs ys first stops = stops
 stops_behind WriteFault old mid new xs ys first stops = record {
   part = xs ++ stops.part;
   is_part = part_behind xs stops.part ys stops.is_part;
   gained = gained_both old.held mid.held new.held xs stops.part first.gained stops.gained;
-  rose = on_then_rose old.faults mid.faults new.faults first.later stops.rose }
+  rose = on_then_rose old.faults mid.faults new.faults first.later stops.rose;
+}
 stops_behind Spent old mid new xs ys first stops = stops
 stops_behind NoMemory old mid new xs ys first stops = record {
   part = xs ++ stops.part;
   begins = begins_behind xs stops.part ys stops.begins;
-  gained = gained_both old.held mid.held new.held xs stops.part first.gained stops.gained }
+  gained = gained_both old.held mid.held new.held xs stops.part first.gained stops.gained;
+}

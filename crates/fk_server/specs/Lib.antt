@@ -1,4 +1,3 @@
 pub mod Words
-pub mod OneLine
 pub mod Session
 pub mod Answering

@@ -17,7 +17,12 @@ pub record Setting : Type 0 where
 
 abbrev pub setting : Option (List ℕ) → ℕ → Option (List ℕ) → ℕ → List (List ℕ) → Setting
 setting left read_faults held write_faults kept = record {
-  left = left; read_faults = read_faults; held = held; write_faults = write_faults; kept = kept }
+  left = left;
+  read_faults = read_faults;
+  held = held;
+  write_faults = write_faults;
+  kept = kept;
+}
 
 -- one list begins another, or is all of it
 abbrev pub Begins : List ℕ → List ℕ → Type 0

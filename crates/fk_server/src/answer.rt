@@ -1,11 +1,11 @@
 ghost use Rattle.std.specs.Prelude.{◌≡◌, ◌++◌, IfErr, OnOk, OnErr};
 ghost use Rattle.std.specs.Option.{option_to_list};
-ghost use Rattle.fk_frame.specs.Replies.{reply_bytes, IsReply};
+ghost use Rattle.fk_frame.specs.Replies.{reply_bytes, IsWellFormed};
 ghost use Rattle.fk_model.specs.Advance.{IsIdle};
-ghost use Rattle.fk_model.specs.Script.{item_of as given, phase_after as phase_behind, replies, kept_texts};
+ghost use Rattle.fk_model.specs.Script.{item_of, phase_after, replies, kept_texts};
 ghost use Rattle.fk_server.specs.Answering.{written, standing, Wrote, Stops, Answers, StopsAnswering};
 
-use crate::talk::{item_of, phase_after};
+use crate::talk::{next_phase, read_item};
 use fk_frame::{Line, LineReader, write_reply};
 use fk_io::{Ended, Sink};
 use fk_json::{Text, Texts};
@@ -47,7 +47,7 @@ pub fn answer<K: Sink>(
     output: &mut K,
     kept: &mut Texts,
 ) -> Result<(), Ended>
-    requires { IsReply item.reply }
+    requires { IsWellFormed item.reply }
     ensures ok { OnOk result (Wrote (written (K.held output.old) (K.write_faults output.old))
         (written (K.held output.new) (K.write_faults output.new)) (reply_bytes item.reply)) }
     ensures keeps { OnOk result (kept.new ≡ kept.old ++ option_to_list item.kept) }
@@ -93,20 +93,20 @@ fn serve_line<K: Sink>(
     output: &mut K,
     kept: &mut Texts,
 ) -> Result<(), Ended>
-    ensures phase { OnOk result (phase.new ≡ phase_behind phase.old line.now) }
+    ensures phase { OnOk result (phase.new ≡ phase_after phase.old line.now) }
     ensures ok { OnOk result (Wrote (written (K.held output.old) (K.write_faults output.old))
         (written (K.held output.new) (K.write_faults output.new))
-        (replies (option_to_list (given phase.old line.now)))) }
+        (replies (option_to_list (item_of phase.old line.now)))) }
     ensures keeps { OnOk result
-        (kept.new ≡ kept.old ++ kept_texts (option_to_list (given phase.old line.now))) }
+        (kept.new ≡ kept.old ++ kept_texts (option_to_list (item_of phase.old line.now))) }
     ensures err { IfErr result (λ ended. Stops ended
         (written (K.held output.old) (K.write_faults output.old))
         (written (K.held output.new) (K.write_faults output.new))
-        (replies (option_to_list (given phase.old line.now)))) }
+        (replies (option_to_list (item_of phase.old line.now)))) }
 {
-    if let Some(item) = item_of(alloc, *phase, line)? {
+    if let Some(item) = read_item(alloc, *phase, line)? {
         answer(alloc, item, output, kept)?;
     }
-    *phase = phase_after(*phase, line);
+    *phase = next_phase(*phase, line);
     Ok(())
 }

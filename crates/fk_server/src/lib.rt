@@ -5,5 +5,7 @@ mod answer;
 mod piped;
 mod session;
 mod talk;
+#[cfg(test)]
+mod tests;
 
 pub use piped::pipe;

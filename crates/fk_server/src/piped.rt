@@ -30,9 +30,9 @@ pub fn pipe<S: Source, K: Sink>(
     // With valid words, one session was served.
     ensures served { AreValid words.now → IsServed result
         (setting (S.left input.old) (S.read_faults input.old)
-            (K.held output.old) (K.write_faults output.old) kept.old)
+        (K.held output.old) (K.write_faults output.old) kept.old)
         (setting (S.left input.new) (S.read_faults input.new)
-            (K.held output.new) (K.write_faults output.new) kept.new) }
+        (K.held output.new) (K.write_faults output.new) kept.new) }
 {
     if !are_valid(words) {
         return USAGE;

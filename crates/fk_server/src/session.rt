@@ -43,9 +43,9 @@ pub fn serve<S: Source, K: Sink>(
 ) -> Ended
     ensures { IsSession result
         (setting (S.left input.old) (S.read_faults input.old)
-            (K.held output.old) (K.write_faults output.old) kept.old)
+        (K.held output.old) (K.write_faults output.old) kept.old)
         (setting (S.left input.new) (S.read_faults input.new)
-            (K.held output.new) (K.write_faults output.new) kept.new) }
+        (K.held output.new) (K.write_faults output.new) kept.new) }
 {
     if let Err(ended) = write_all(output, GREETING) {
         return ended;
@@ -73,17 +73,17 @@ fn serve_piece<S: Source, K: Sink>(
 ) -> Result<(), Ended>
     requires { session.old.phase ≢ Phase.Over }
     ensures stands { (first : Setting) → Stands first
-            (setting (S.left input.old) (S.read_faults input.old)
-                (K.held output.old) (K.write_faults output.old) kept.old)
-            session.old.phase session.old.lines session.old.taken
+        (setting (S.left input.old) (S.read_faults input.old)
+        (K.held output.old) (K.write_faults output.old) kept.old)
+        session.old.phase session.old.lines session.old.taken
         → MatchResult result
-            (λ _. Stands first
-                (setting (S.left input.new) (S.read_faults input.new)
-                    (K.held output.new) (K.write_faults output.new) kept.new)
-                session.new.phase session.new.lines session.new.taken)
-            (λ ended. IsSession ended first
-                (setting (S.left input.new) (S.read_faults input.new)
-                    (K.held output.new) (K.write_faults output.new) kept.new)) }
+        (λ _. Stands first
+        (setting (S.left input.new) (S.read_faults input.new)
+        (K.held output.new) (K.write_faults output.new) kept.new)
+        session.new.phase session.new.lines session.new.taken)
+        (λ ended. IsSession ended first
+        (setting (S.left input.new) (S.read_faults input.new)
+        (K.held output.new) (K.write_faults output.new) kept.new)) }
     ensures goes_on { OnOk result (session.old.taken < session.new.taken) }
     ensures within { OnOk result (session.new.taken ≤ TAKEN_MAX) }
 {
@@ -128,14 +128,14 @@ fn answer_piece<K: Sink>(
     requires { session.old.taken + length piece.now ≤ TAKEN_MAX }
     ensures ok { OnOk result (Answers
         (standing session.old.phase (session.old.lines ++ piece.now)
-            (written (K.held output.old) (K.write_faults output.old)) kept.old)
+        (written (K.held output.old) (K.write_faults output.old)) kept.old)
         (standing session.new.phase session.new.lines
-            (written (K.held output.new) (K.write_faults output.new)) kept.new)) }
+        (written (K.held output.new) (K.write_faults output.new)) kept.new)) }
     ensures idle { OnOk result (IsIdle session.new.phase session.new.lines) }
     ensures counted { OnOk result (session.new.taken ≡ session.old.taken + length piece.now) }
     ensures err { IfErr result (λ ended. StopsAnswering ended
         (standing session.old.phase (session.old.lines ++ piece.now)
-            (written (K.held output.old) (K.write_faults output.old)) kept.old)
+        (written (K.held output.old) (K.write_faults output.old)) kept.old)
         (written (K.held output.new) (K.write_faults output.new))) }
 {
     session.lines.feed(piece)?;

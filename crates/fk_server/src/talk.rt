@@ -1,40 +1,39 @@
-ghost use Rattle.std.specs.Prelude.{◌≡◌, true, ◌≤◌, length, position, IfOk, IfSome};
-ghost use Rattle.std.specs.List.{list_all, position_or_len};
-ghost use Rattle.fk_frame.specs.Replies.{IsReply};
-ghost use Rattle.fk_server.specs.OneLine.{is_line_byte};
-ghost use Rattle.fk_model.specs.Commands.{verb as verb_text, arguments as arguments_text, is_plain_hello as hello, is_space};
-ghost use Rattle.fk_model.specs.Script.{ok as taken_well, refused as refusal, pushed as pushed_item, command_item as commanded, handshake_item as shaken, item_of as given, phase_after as phase_behind};
+ghost use Rattle.std.specs.Prelude.{◌≡◌, ◌≤◌, length, position, IfOk, IfSome};
+ghost use Rattle.std.specs.List.{position_or_len};
+ghost use Rattle.fk_frame.specs.Replies.{IsOneLine, IsWellFormed};
+ghost use Rattle.fk_model.specs.Commands.{verb, arguments, is_plain_hello, is_space};
+ghost use Rattle.fk_model.specs.Script.{ok, refused, pushed, command_item, handshake_item, item_of, phase_after};
 
 use fk_frame::Reply;
 use fk_json::{Text, plain_form};
 use fk_model::{Item, Phase};
 use std::alloc::{AllocError, Global};
 
-#[tactic(auto, unfolding(fk_model::specs::Script::item_of))]
 /// What the line of a talk gives, if it gives anything.
-pub fn item_of(alloc: Global, phase: Phase, line: &[u8]) -> Result<Option<Item>, AllocError>
-    ensures item { IfOk result (λ item. item ≡ given phase line.now) }
-    ensures reply { IfOk result (λ item. IfSome item (λ item. IsReply item.reply)) }
+#[tactic(auto, unfolding(fk_model::specs::Script::item_of))]
+pub fn read_item(alloc: Global, phase: Phase, line: &[u8]) -> Result<Option<Item>, AllocError>
+    ensures item { IfOk result (λ item. item ≡ item_of phase line.now) }
+    ensures reply { IfOk result (λ item. IfSome item (λ item. IsWellFormed item.reply)) }
 {
-    let is_end = verb(line) == b"END".as_slice();
+    let is_end = verb_of(line) == b"END".as_slice();
     match phase {
         Phase::Greeted if is_end => Ok(None),
-        Phase::Greeted => Ok(Some(handshake_item(alloc, line))),
+        Phase::Greeted => Ok(Some(before_hello(alloc, line))),
         Phase::Accepted if is_end => Ok(None),
-        Phase::Accepted => Ok(Some(command_item(alloc, line)?)),
+        Phase::Accepted => Ok(Some(behind_hello(alloc, line)?)),
         Phase::Over => Ok(None),
     }
 }
 
-#[tactic(auto, unfolding(fk_model::specs::Script::phase_after))]
 /// How far the talk has come behind a line.
-pub fn phase_after(phase: Phase, line: &[u8]) -> Phase
-    ensures { result ≡ phase_behind phase line.now }
+#[tactic(auto, unfolding(fk_model::specs::Script::phase_after))]
+pub fn next_phase(phase: Phase, line: &[u8]) -> Phase
+    ensures { result ≡ phase_after phase line.now }
 {
-    let is_end = verb(line) == b"END".as_slice();
+    let is_end = verb_of(line) == b"END".as_slice();
     match phase {
         Phase::Greeted if is_end => Phase::Over,
-        Phase::Greeted if is_plain_hello(line) => Phase::Accepted,
+        Phase::Greeted if says_hello(line) => Phase::Accepted,
         Phase::Greeted => Phase::Greeted,
         Phase::Accepted if is_end => Phase::Over,
         Phase::Accepted => Phase::Accepted,
@@ -59,44 +58,49 @@ fn space_at(line: &[u8]) -> usize
 }
 
 /// The line's bytes before its first space, or all of them.
-fn verb(line: &[u8]) -> &[u8]
-    ensures { result.now ≡ verb_text line.now }
+fn verb_of(line: &[u8]) -> &[u8]
+    ensures { result.now ≡ verb line.now }
 {
     &line[..space_at(line)]
 }
 
 /// The line's bytes behind its first space, or none.
-fn arguments(line: &[u8]) -> &[u8]
-    ensures { result.now ≡ arguments_text line.now }
+fn arguments_of(line: &[u8]) -> &[u8]
+    ensures { result.now ≡ arguments line.now }
 {
     let at = space_at(line);
-    if at < line.len() { &line[at + 1..] } else { &line[at..] }
+    if at < line.len() {
+        &line[at + 1..]
+    } else {
+        &line[at..]
+    }
 }
 
-fn is_plain_hello(line: &[u8]) -> bool
-    ensures { result ≡ hello line.now }
+/// Whether the line is the one HELLO that is served.
+fn says_hello(line: &[u8]) -> bool
+    ensures { result ≡ is_plain_hello line.now }
 {
     line == b"HELLO {\"v\":2}".as_slice()
 }
 
-/// A reply with a fixed text and nothing that is kept.
-fn handshake_item(alloc: Global, line: &[u8]) -> Item
-    ensures item { result ≡ shaken line.now }
-    ensures reply { IsReply result.reply }
+/// What a line gives before a HELLO was accepted.
+fn before_hello(alloc: Global, line: &[u8]) -> Item
+    ensures item { result ≡ handshake_item line.now }
+    ensures reply { IsWellFormed result.reply }
 {
-    if is_plain_hello(line) {
-        ok(alloc)
-    } else if verb(line) == b"HELLO".as_slice() {
-        refused(alloc, b"ERR Not served yet")
+    if says_hello(line) {
+        accept(alloc)
+    } else if verb_of(line) == b"HELLO".as_slice() {
+        refuse(alloc, b"ERR Not served yet")
     } else {
-        refused(alloc, b"ERR HELLO first")
+        refuse(alloc, b"ERR HELLO first")
     }
 }
 
-#[tactic(auto, using(crate::proofs::OneLine::one_line))]
-fn ok(alloc: Global) -> Item
-    ensures item { result ≡ taken_well }
-    ensures reply { IsReply result.reply }
+/// The reply `+OK`, with nothing that is kept.
+fn accept(alloc: Global) -> Item
+    ensures item { result ≡ ok }
+    ensures reply { IsWellFormed result.reply }
 {
     Item {
         reply: Reply::Status(Text::fixed(alloc, b"OK")),
@@ -104,11 +108,11 @@ fn ok(alloc: Global) -> Item
     }
 }
 
-#[tactic(auto, using(crate::proofs::OneLine::one_line))]
-fn refused(alloc: Global, text: &'static [u8]) -> Item
-    requires { list_all is_line_byte text.now ≡ true }
-    ensures item { result ≡ refusal text.now }
-    ensures reply { IsReply result.reply }
+/// An error reply, with nothing that is kept.
+fn refuse(alloc: Global, text: &'static [u8]) -> Item
+    requires { IsOneLine text.now }
+    ensures item { result ≡ refused text.now }
+    ensures reply { IsWellFormed result.reply }
 {
     Item {
         reply: Reply::Error(Text::fixed(alloc, text)),
@@ -116,26 +120,27 @@ fn refused(alloc: Global, text: &'static [u8]) -> Item
     }
 }
 
-fn command_item(alloc: Global, line: &[u8]) -> Result<Item, AllocError>
-    ensures item { IfOk result (λ item. item ≡ commanded line.now) }
-    ensures reply { IfOk result (λ item. IsReply item.reply) }
+/// What a line gives behind an accepted HELLO.
+fn behind_hello(alloc: Global, line: &[u8]) -> Result<Item, AllocError>
+    ensures item { IfOk result (λ item. item ≡ command_item line.now) }
+    ensures reply { IfOk result (λ item. IsWellFormed item.reply) }
 {
-    if verb(line) == b"HELLO".as_slice() {
-        Ok(refused(alloc, b"ERR Not served yet"))
-    } else if verb(line) == b"PUSH".as_slice() {
-        pushed(alloc, arguments(line))
+    if verb_of(line) == b"HELLO".as_slice() {
+        Ok(refuse(alloc, b"ERR Not served yet"))
+    } else if verb_of(line) == b"PUSH".as_slice() {
+        push(alloc, arguments_of(line))
     } else {
-        Ok(refused(alloc, b"ERR Unknown command"))
+        Ok(refuse(alloc, b"ERR Unknown command"))
     }
 }
 
-#[tactic(auto, using(crate::proofs::OneLine::one_line))]
-fn pushed(alloc: Global, job: &[u8]) -> Result<Item, AllocError>
-    ensures item { IfOk result (λ item. item ≡ pushed_item job.now) }
-    ensures reply { IfOk result (λ item. IsReply item.reply) }
+/// What a PUSH of this job gives.
+fn push(alloc: Global, job: &[u8]) -> Result<Item, AllocError>
+    ensures item { IfOk result (λ item. item ≡ pushed job.now) }
+    ensures reply { IfOk result (λ item. IsWellFormed item.reply) }
 {
     if !plain_form(job) {
-        return Ok(refused(alloc, b"ERR Not served yet"));
+        return Ok(refuse(alloc, b"ERR Not served yet"));
     }
     Ok(Item {
         reply: Reply::Status(Text::fixed(alloc, b"OK")),
