@@ -45,11 +45,5 @@ fn serve<R: Input + Print + AllocGlobal>(rt: &R, words: &Vec<String>) -> Result<
     let mut kept = Texts::new(rt.alloc());
     let mut input = StdSource::new(rt);
     let mut output = StdSink::new(rt);
-    Ok(pipe(
-        rt.alloc(),
-        &texts,
-        &mut input,
-        &mut output,
-        &mut kept,
-    ))
+    Ok(pipe(rt.alloc(), &texts, &mut input, &mut output, &mut kept))
 }

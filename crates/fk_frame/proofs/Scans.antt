@@ -61,10 +61,10 @@ no_line bytes from scanned seen none =
     let all : IsScanned bytes from (length bytes) = scanned_all bytes from scanned seen none in
     let unended : ¬ Contains (drop from bytes) line_feed =
     λ held.
-        let within : from + held.0 < length bytes = omega (arith, length-drop {A = ℕ}, held.1) in
-        let here : get_or bytes (from + held.0) line_feed ≡ line_feed = rw get_or-drop at held.2 in
-        all.seen (from + held.0) (omega arith) within
-        (get_or_default bytes (from + held.0) 0 line_feed within ∙ here) in
+    let within : from + held.0 < length bytes = omega (arith, length-drop {A = ℕ}, held.1) in
+    let here : get_or bytes (from + held.0) line_feed ≡ line_feed = rw get_or-drop at held.2 in
+    all.seen (from + held.0) (omega arith) within
+    (get_or_default bytes (from + held.0) 0 line_feed within ∙ here) in
     record { unended = unended; same = refl; lines = no_lines (drop from bytes) unended }
 
 -- the first line feed behind what was scanned is the first of all

@@ -18,27 +18,30 @@ stays phase bytes = record { gives = λ more. refl; comes = λ more. refl }
 
 -- one step and then another
 pub joined : {from mid to : Phase} {bytes at_hand rest : List ℕ} {items more_items : List Item}
-  → Advances from bytes items mid at_hand → Advances mid at_hand more_items to rest
-  → Advances from bytes (items ++ more_items) to rest
+    → Advances from bytes items mid at_hand → Advances mid at_hand more_items to rest
+    → Advances from bytes (items ++ more_items) to rest
 joined {to = to} {rest = rest} {items = items} {more_items = more_items} one other = record {
   gives = λ more. one.gives more ∙ ap (λ found. items ++ found) (other.gives more)
-    ∙ sym (append_assoc items more_items (items_from to (lines_of (rest ++ more))));
-  comes = λ more. one.comes more ∙ other.comes more }
+      ∙ sym (append_assoc items more_items (items_from to (lines_of (rest ++ more))));
+  comes = λ more. one.comes more ∙ other.comes more;
+}
 
 -- a piece is fed
 pub fed : {from to : Phase} {bytes rest : List ℕ} {items : List Item} (piece : List ℕ)
-  → Advances from bytes items to rest → Advances from (bytes ++ piece) items to (rest ++ piece)
+    → Advances from bytes items to rest → Advances from (bytes ++ piece) items to (rest ++ piece)
 fed {bytes = bytes} {rest = rest} piece before = record {
   gives = λ more. rw (append_assoc bytes piece more, append_assoc rest piece more) (before.gives (piece ++ more));
-  comes = λ more. rw (append_assoc bytes piece more, append_assoc rest piece more) (before.comes (piece ++ more)) }
+  comes = λ more. rw (append_assoc bytes piece more, append_assoc rest piece more) (before.comes (piece ++ more));
+}
 
 -- a line is read
 pub by_line : (phase : Phase) (bytes line rest : List ℕ)
-  → ((more : List ℕ) → lines_of (bytes ++ more) ≡ line ∷ lines_of (rest ++ more))
-  → Advances phase bytes (option_to_list (item_of phase line)) (phase_after phase line) rest
+    → ((more : List ℕ) → lines_of (bytes ++ more) ≡ line ∷ lines_of (rest ++ more))
+    → Advances phase bytes (option_to_list (item_of phase line)) (phase_after phase line) rest
 by_line phase bytes line rest cut = record {
   gives = λ more. ap (items_from phase) (cut more);
-  comes = λ more. ap (phase_from phase) (cut more) }
+  comes = λ more. ap (phase_from phase) (cut more);
+}
 
 -- behind END nothing comes
 pub items_from-over : (lines : List (List ℕ)) → items_from Over lines ≡ []
@@ -95,7 +98,7 @@ going_behind phase (line ∷ lines) going none =
 
 -- the talk has come to this phase
 phase_is : (taken : List ℕ) (items : List Item) (phase : Phase) (rest : List ℕ)
-  → Advances Greeted taken items phase rest → IsIdle phase rest → phase_from Greeted (lines_of taken) ≡ phase
+    → Advances Greeted taken items phase rest → IsIdle phase rest → phase_from Greeted (lines_of taken) ≡ phase
 phase_is taken items phase rest all (inl over) =
     let comes = rw (append-nil, append-nil) at (all.comes []) in
     comes ∙ rw over (phase_from-over (lines_of rest))
@@ -105,7 +108,7 @@ phase_is taken items phase rest all (inr none) =
 
 -- where no line is left, what was given is the script of what was taken
 pub script_is : (taken : List ℕ) (items : List Item) (phase : Phase) (rest : List ℕ)
-  → Advances Greeted taken items phase rest → IsIdle phase rest → script taken ≡ items
+    → Advances Greeted taken items phase rest → IsIdle phase rest → script taken ≡ items
 script_is taken items phase rest all (inl over) =
     let gives = rw (append-nil, append-nil) at (all.gives []) in
     gives ∙ ap (λ more. items ++ more) (rw over (items_from-over (lines_of rest))) ∙ append-nil items
@@ -115,7 +118,7 @@ script_is taken items phase rest all (inr none) =
 
 -- END was said where the talk is over
 pub over_is : (taken : List ℕ) (items : List Item) (rest : List ℕ)
-  → Advances Greeted taken items Over rest → IsOver taken
+    → Advances Greeted taken items Over rest → IsOver taken
 over_is taken items rest all =
     elim (cases_Bool (list_any (has_verb (codes "END")) (lines_of taken))) [
       | inl said ↦ said
@@ -126,11 +129,11 @@ over_is taken items rest all =
 
 -- and nowhere else
 pub not_over : (taken : List ℕ) (items : List Item) (phase : Phase) (rest : List ℕ)
-  → Advances Greeted taken items phase rest → IsIdle phase rest → phase ≢ Over → ¬ IsOver taken
+    → Advances Greeted taken items phase rest → IsIdle phase rest → phase ≢ Over → ¬ IsOver taken
 not_over taken items phase rest all idle going said =
     going (sym (phase_is taken items phase rest all idle) ∙ over_behind Greeted (lines_of taken) said)
 
 -- what was given begins the script of what was taken, whatever is left
 pub begins_script : (taken : List ℕ) (items : List Item) (phase : Phase) (rest : List ℕ)
-  → Advances Greeted taken items phase rest → script taken ≡ items ++ items_from phase (lines_of rest)
+    → Advances Greeted taken items phase rest → script taken ≡ items ++ items_from phase (lines_of rest)
 begins_script taken items phase rest all = rw (append-nil, append-nil) at (all.gives [])
