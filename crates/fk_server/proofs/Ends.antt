@@ -1,21 +1,21 @@
 -- How a session begins, goes on by a piece, and ends.
-use Rattle.std.proofs.Common.{◌≡◌, ◌≢◌, ℕ, ◌+◌, ◌<◌, ◌≤◌, List, [], ◌++◌, length, Option, None, Some, Result, Ok, Err, refl, sym, ◌∙◌, ap, inl, inr, subst, arith, append_assoc, length-append}
+use Rattle.std.proofs.Common.{◌≡◌, ◌≢◌, ℕ, ◌+◌, ◌<◌, ◌≤◌, List, [], ◌++◌, length, Option, None, Some, Result, Ok, Err, refl, sym, ◌∙◌, ap, inl, inr, arith, append_assoc, length-append}
 use Rattle.std.proofs.lemmas.List.{append-nil}
 use Rattle.std.specs.Result.{OnOk, IfErr, MatchResult}
 use Rattle.fk_io.specs.declared.fault.Ended.{Ended}
 use Rattle.fk_io.specs.declared.fault.Ended.TheVariants.{Closed, ReadFault, WriteFault, Spent, NoMemory}
 use Rattle.fk_io.specs.Content.{Took, Gained, IsAtEnd}
 use Rattle.fk_io.specs.Faults.{Rose}
-use Rattle.fk_io.proofs.Content.{took_nothing, took_both, gained_nothing, gained_both}
+use Rattle.fk_io.proofs.Content.{took_nothing, took_both, gained_both}
 use Rattle.fk_io.proofs.Faults.{on_then_rose}
 use Rattle.fk_frame.specs.Lines.{lines_of}
 use Rattle.fk_model.specs.declared.item.Item.{Item}
 use Rattle.fk_model.specs.declared.item.Phase.{Phase}
-use Rattle.fk_model.specs.declared.item.Phase.TheVariants.{Greeted, Accepted, Over}
-use Rattle.fk_model.specs.Script.{greeting, script, replies, kept_texts, output, items_from, IsOver}
+use Rattle.fk_model.specs.declared.item.Phase.TheVariants.{Greeted, Over}
+use Rattle.fk_model.specs.Script.{greeting, replies, kept_texts, output, items_from}
 use Rattle.fk_model.specs.Advance.{Advances, IsIdle}
 use Rattle.fk_model.proofs.Advance.{stays, joined, fed, script_is, over_is, not_over, begins_script}
-use Rattle.fk_server.specs.Session.{Setting, setting, Begins, IsPartOf, IsAnswered, IsPrompt, HasEnded, IsSession, Serves}
+use Rattle.fk_server.specs.Session.{Setting, setting, IsAnswered, HasEnded, IsSession}
 use Rattle.fk_server.specs.Answering.{Written, written, Wrote, Broke, Starved, Stops, standing, Answers, StopsAnswering, Stands}
 use Rattle.fk_server.specs.declared.session.TheConstants.{PIECE, TAKEN_MAX}
 use Rattle.fk_server.proofs.Answering.{replies-append, kept_texts-append}

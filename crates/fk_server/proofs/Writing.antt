@@ -1,11 +1,11 @@
 -- Bytes that are written in steps.
-use Rattle.std.proofs.Common.{◌≡◌, ℕ, ◌+◌, ◌≤◌, List, [], ◌++◌, length, refl, ap, sym, ◌∙◌, arith, append_assoc, length-append}
+use Rattle.std.proofs.Common.{ℕ, List, [], ◌++◌, refl, ap, sym, ◌∙◌, arith, append_assoc, length-append}
 use Rattle.fk_io.specs.declared.fault.Ended.{Ended}
 use Rattle.fk_io.specs.declared.fault.Ended.TheVariants.{Closed, ReadFault, WriteFault, Spent, NoMemory}
 use Rattle.fk_io.proofs.Content.{gained_nothing, gained_both}
 use Rattle.fk_io.proofs.Faults.{on_then_rose}
 use Rattle.fk_server.specs.Session.{Begins, IsPartOf}
-use Rattle.fk_server.specs.Answering.{Written, Wrote, Starved, Broke, Stops}
+use Rattle.fk_server.specs.Answering.{Written, Wrote, Starved, Stops}
 
 -- nothing was written
 pub wrote_nothing : (out : Written) → Wrote out out []

@@ -1,4 +1,4 @@
-use Rattle.std.proofs.Common.{ℕ, ◌≤◌, ◌-◌, List, length, take}
+use Rattle.std.proofs.Common.{◌-◌, length, take}
 use Rattle.fk_server.specs.Answering.{written, Wrote}
 use Rattle.fk_server.proofs.answer.write_all.Given as goal
 
