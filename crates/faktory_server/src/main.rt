@@ -37,7 +37,7 @@ fn words_of<R: Env + AllocGlobal>(rt: &R) -> io::Result<Vec<String>> {
 }
 
 /// Serves the standard input and output by these words, and answers the exit status.
-fn serve<R: Input + Print + AllocGlobal>(rt: &R, words: &Vec<String>) -> Result<u8, AllocError> {
+fn serve<R: Input + Print + AllocGlobal>(rt: &R, words: &[String]) -> Result<u8, AllocError> {
     let mut texts = Vec::new(rt.alloc());
     for word in words {
         texts.push(word.as_str())?;

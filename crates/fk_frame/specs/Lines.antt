@@ -12,7 +12,7 @@ abbrev pub without_return : List ℕ → List ℕ
 without_return line =
     if slice_index line (length line - 1) == carriage_return then all_but_last line else line
 
--- the stream's lines: its parts up to each line feed, each without the CR at its end. What stands behind the
--- last line feed has no end yet and is left out
+-- the stream's lines: its parts up to each line feed, each without the CR at its end. What stands
+-- behind the last line feed has no end yet and is left out
 abbrev pub lines_of : List ℕ → List (List ℕ)
 lines_of bytes = map without_return (all_but_last (slice_split is_line_feed bytes))

@@ -6,8 +6,8 @@ use Rattle.fk_frame.specs.declared.line_reader.Line.TheVariants.{Whole, Need}
 use Rattle.fk_frame.specs.Bytes.{line_feed, is_line_feed}
 use Rattle.fk_frame.specs.Lines.{lines_of, without_return}
 
--- the first line of a stream that has one, and the stream behind it: in whatever way the stream goes on, its
--- lines are this one and those of the rest
+-- the first line of a stream that has one, and the stream behind it: in whatever way the stream goes
+-- on, its lines are this one and those of the rest
 pub record IsFirstLine (stream line rest : List ℕ) : Type 0 where
   pub ended : Contains stream line_feed
   pub front : line ≡ without_return (before_first is_line_feed stream)

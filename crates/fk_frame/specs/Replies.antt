@@ -1,5 +1,5 @@
--- Replies as bytes, after Faktory's protocol specification: the forms of Redis' RESP that it takes, without
--- integers and arrays.
+-- Replies as bytes, after Faktory's protocol specification: the forms of Redis' RESP that it takes,
+-- without integers and arrays.
 use Rattle.std.specs.Prelude.{ℕ, ◌<◌, ◌^◌, ◌==◌, ◌&&◌, Bool, not, IsTrue, List, ◌++◌, length, codes}
 use Rattle.std.specs.List.{list_all}
 use Rattle.std.specs.Fmt.{decimal}
@@ -7,8 +7,8 @@ use Rattle.fk_frame.specs.declared.reply.Reply.{Reply}
 use Rattle.fk_frame.specs.declared.reply.Reply.TheVariants.{Status, Error, Bulk, Nil}
 use Rattle.fk_frame.specs.Bytes.{carriage_return, line_feed, line_end}
 
--- a status is `+` and its text, an error `-` and its text, a bulk `$`, its length in decimal and, on a
--- line of its own, its text, and no bulk is `$-1`; each ends with CR LF
+-- a status is `+` and its text, an error `-` and its text, a bulk `$`, its length in decimal and, on
+-- a line of its own, its text, and no bulk is `$-1`; each ends with CR LF
 abbrev pub reply_bytes : Reply → List ℕ
 reply_bytes (Status text) = codes "+" ++ text ++ line_end
 reply_bytes (Error text) = codes "-" ++ text ++ line_end

@@ -19,8 +19,8 @@ pub enum Line {
 
 /// Cuts a stream that comes in any pieces into its lines.
 ///
-/// Bytes in front of `from` were given out, and those from there to `scanned` hold no LF, so no byte
-/// is looked at twice. What was given out is cut off when at least half of the buffer is.
+/// Bytes in front of `from` were given out, and those from there to `scanned` hold no LF, so no
+/// byte is looked at twice. What was given out is cut off when at least half of the buffer is.
 #[derive(Debug, Drop)]
 pub struct LineReader {
     buffer: Vec<u8>,
@@ -77,8 +77,8 @@ impl LineReader {
         Ok(Line::Whole(text))
     }
 
-    // Cuts off what was given out, when that is at least as long as what is left. So each byte that is
-    // moved pays for one that was given out, and the moves take no longer than the stream.
+    // Cuts off what was given out, when that is at least as long as what is left. So each byte that
+    // is moved pays for one that was given out, and the moves take no longer than the stream.
     fn give_up_front(&mut self)
         ensures { self.new ≡ self.old }
     {

@@ -48,7 +48,8 @@ fn line(alloc: Global, head: &[u8], text: &[u8]) -> Result<Text, AllocError>
 /// A stream of replies can be read in one way only: no reply's bytes begin another reply's, where
 /// statuses and errors are one line each and bulks are shorter than 2^64 bytes.
 pub fn no_reply_begins_another()
-    ensures { (r s : AReply) (x y : List ℕ) → IsWellFormed r → IsWellFormed s → FitsMemory r → FitsMemory s
+    ensures { (r s : AReply) (x y : List ℕ)
+        → IsWellFormed r → IsWellFormed s → FitsMemory r → FitsMemory s
         → reply_bytes r ++ x ≡ reply_bytes s ++ y → (r ≡ s) × (x ≡ y) }
 {}
 

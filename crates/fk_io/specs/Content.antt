@@ -1,4 +1,5 @@
--- What an object of the outside tells of its content. It may tell nothing, and then it is `None` before and after.
+-- What an object of the outside tells of its content. It may tell nothing, and then it is `None`
+-- before and after.
 use Rattle.std.specs.Prelude.{◌≡◌, ℕ, List, [], ◌++◌, Option, IfSome}
 use Rattle.std.specs.Option.{option_map}
 

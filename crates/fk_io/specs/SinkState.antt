@@ -3,8 +3,8 @@ use Rattle.std.specs.Prelude.{ℕ, List, ◌++◌, if◌then◌else◌}
 use Rattle.fk_io.specs.Faults.{one_more}
 use Rattle.fk_io.specs.SourceState.{is_listed}
 
--- the bytes that it holds, the numbers of the calls that fail, how many calls there were, how many of
--- them failed, and how many of those for want of memory
+-- the bytes that it holds, the numbers of the calls that fail, how many calls there were, how many
+-- of them failed, and how many of those for want of memory
 pub record SinkState : Type 0 where
   pub held : List ℕ
   pub failing : List ℕ

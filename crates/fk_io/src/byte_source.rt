@@ -39,8 +39,8 @@ impl Model for ByteSource {
 }
 
 impl ByteSource {
-    /// A source of these bytes. Each piece has at most as many bytes as the next cut, where a cut of
-    /// 0 counts as 1, and behind the last cut as many as are asked for. The calls with the listed
+    /// A source of these bytes. Each piece has at most as many bytes as the next cut, where a cut
+    /// of 0 counts as 1, and behind the last cut as many as are asked for. The calls with the listed
     /// numbers, counted from 0, fail.
     pub fn new(
         alloc: Global,

@@ -1,4 +1,4 @@
-//! The outside as the server sees it: where bytes come from and go to, told or not, and how often that failed.
+//! The outside as the server sees it: where bytes come from and go to, and how often that failed.
 #![tactic(auto)]
 
 mod byte_sink;

@@ -17,8 +17,8 @@ pub trait Source {
     ghost sink_side: { Self → Option (List ℕ) × ℕ } = { λ _. (None, 0) };
 
     /// Reads the next bytes into the front of `into`, and answers how many, in bytes: at most the
-    /// buffer's length. The bytes behind them stay. 0 for a buffer with room means the end of input.
-    /// After a failure nothing was taken, and nothing is said of the buffer.
+    /// buffer's length. The bytes behind them stay. 0 for a buffer with room means the end of
+    /// input. After a failure nothing was taken, and nothing is said of the buffer.
     fn take(&mut self, into: &mut [u8]) -> Result<usize, Failed>
         ensures count { IfOk result (λ n. n ≤ length into.new) }
         ensures taken { IfOk result (λ n. Took (left self.old) (take n into.new) (left self.new)) }

@@ -68,6 +68,7 @@ impl<R: Input> Source for StdSource<R> {
     ghost read_faults = { λ s. s };
 
     fn take(&mut self, into: &mut [u8]) -> Result<usize, Failed> {
+        // A read may leave anything behind the bytes that it gives, so they are read aside.
         let mut piece = [0; PIECE];
         let room = into.len().min(PIECE);
         match read_some(&mut self.reader, &mut piece[..room]) {

@@ -6,11 +6,14 @@ use Rattle.fk_model.specs.declared.item.Phase.{Phase}
 use Rattle.fk_model.specs.declared.item.Phase.TheVariants.{Over}
 use Rattle.fk_model.specs.Script.{items_from, phase_from}
 
--- From one phase, with these bytes at hand, the talk gives these items and comes to another phase with the rest
--- at hand, in whatever way the stream goes on.
-pub record Advances (from : Phase) (bytes : List ℕ) (items : List Item) (to : Phase) (rest : List ℕ) : Type 0 where
-  pub gives : (more : List ℕ) → items_from from (lines_of (bytes ++ more)) ≡ items ++ items_from to (lines_of (rest ++ more))
-  pub comes : (more : List ℕ) → phase_from from (lines_of (bytes ++ more)) ≡ phase_from to (lines_of (rest ++ more))
+-- From one phase, with these bytes at hand, the talk gives these items and comes to another phase with
+-- the rest at hand, in whatever way the stream goes on.
+pub record Advances
+    (from : Phase) (bytes : List ℕ) (items : List Item) (to : Phase) (rest : List ℕ) : Type 0 where
+  pub gives : (more : List ℕ) →
+      items_from from (lines_of (bytes ++ more)) ≡ items ++ items_from to (lines_of (rest ++ more))
+  pub comes : (more : List ℕ) →
+      phase_from from (lines_of (bytes ++ more)) ≡ phase_from to (lines_of (rest ++ more))
 
 -- no line is left to be answered: the talk is over, or no line ends in the bytes at hand
 abbrev pub IsIdle : Phase → List ℕ → Type 0

@@ -1,4 +1,4 @@
--- The script of a stream: what is answered to it, and what is kept of it, on a connection of its own.
+-- The script of a stream: what is answered to it and what is kept of it, on a connection of its own.
 use Rattle.std.specs.Prelude.{◌≡◌, ℕ, true, List, [], ◌∷◌, ◌++◌, Option, None, Some, codes, if◌then◌else◌}
 use Rattle.std.specs.List.{flat_map, list_any}
 use Rattle.std.specs.Option.{option_to_list}
@@ -32,13 +32,16 @@ not_served = refused (codes "ERR Not served yet")
 -- a PUSH keeps its arguments where they are of the plain form
 abbrev pub pushed : List ℕ → Item
 pushed job =
-    if is_plain_form job then record { reply = Status (codes "OK"); kept = Some job } else not_served
+    if is_plain_form job
+    then record { reply = Status (codes "OK"); kept = Some job }
+    else not_served
 
 -- what a line gives behind an accepted HELLO
 abbrev pub command_item : List ℕ → Item
 command_item line =
     if has_verb (codes "HELLO") line then not_served else
-    (if has_verb (codes "PUSH") line then pushed (arguments line) else refused (codes "ERR Unknown command"))
+    (if has_verb (codes "PUSH") line then pushed (arguments line)
+    else refused (codes "ERR Unknown command"))
 
 -- what a line gives before a HELLO was accepted
 abbrev pub handshake_item : List ℕ → Item
@@ -54,14 +57,17 @@ item_of Over line = None
 
 -- how far the talk has come behind a line
 unfoldable pub phase_after : Phase → List ℕ → Phase
-phase_after Greeted line = if has_verb (codes "END") line then Over else (if is_plain_hello line then Accepted else Greeted)
+phase_after Greeted line =
+    if has_verb (codes "END") line then Over else
+    (if is_plain_hello line then Accepted else Greeted)
 phase_after Accepted line = if has_verb (codes "END") line then Over else Accepted
 phase_after Over line = Over
 
 -- what the lines give, from a phase on
 abbrev pub items_from : Phase → List (List ℕ) → List Item
 items_from phase [] = []
-items_from phase (line ∷ lines) = option_to_list (item_of phase line) ++ items_from (phase_after phase line) lines
+items_from phase (line ∷ lines) =
+    option_to_list (item_of phase line) ++ items_from (phase_after phase line) lines
 
 -- how far the talk has come behind the lines
 abbrev pub phase_from : Phase → List (List ℕ) → Phase

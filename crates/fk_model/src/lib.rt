@@ -1,4 +1,4 @@
-//! What the layers share: the script of a stream, which says what is answered to it and what is kept of it.
+//! What the layers share: the script of a stream, that is, what is answered to it and kept of it.
 #![tactic(auto)]
 
 mod item;

@@ -71,7 +71,8 @@ pub record StopsAnswering (ended : Ended) (old : Standing) (out : Written) : Typ
   pub advances : Advances old.phase old.lines items phase rest
   pub stops : Stops ended old.out out (replies items)
 
--- The session stands between two reads: it took these bytes, answered them all, and keeps what is to be kept.
+-- The session stands between two reads: it took these bytes, answered them all, and keeps what is to
+-- be kept.
 pub record Stands (old now : Setting) (phase : Phase) (lines : List ℕ) (count : ℕ) : Type 0 where
   pub taken : List ℕ
   pub items : List Item

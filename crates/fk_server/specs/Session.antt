@@ -32,13 +32,15 @@ Begins front whole = (rest : List ℕ) × (whole ≡ front ++ rest)
 abbrev pub IsPartOf : List ℕ → List ℕ → Type 0
 IsPartOf front whole = (rest : List ℕ) × (0 < length rest) × (whole ≡ front ++ rest)
 
--- the greeting and every reply to the bytes taken was written whole, and every text of them is kept that is to be
+-- the greeting and every reply to the bytes taken was written whole, and every text of them is kept
+-- that is to be
 pub record IsAnswered (old new : Setting) (taken written : List ℕ) : Type 0 where
   pub replies : written ≡ output taken
   pub kept : new.kept ≡ old.kept ++ kept_texts (script taken)
 
--- At most the last piece of the bytes taken may be without its answer, and no END stands before that piece:
--- either nothing was taken, or some bytes without END, to which all was written, and then at most a piece.
+-- At most the last piece of the bytes taken may be without its answer, and no END stands before that
+-- piece: either nothing was taken, or some bytes without END, to which all was written, and then at
+-- most a piece.
 abbrev pub IsPrompt : List ℕ → List ℕ → Type 0
 IsPrompt taken written = (taken ≡ []) ⊎ ((before piece : List ℕ) × (taken ≡ before ++ piece)
     × (length piece ≤ PIECE) × ¬ IsOver before × Begins (output before) written)
@@ -54,7 +56,8 @@ HasEnded Closed old new taken written =
     IsAnswered old new taken written × (IsOver taken ⊎ (¬ IsOver taken × IsReadToEnd new taken))
 -- all was answered, and the next read failed
 HasEnded ReadFault old new taken written =
-    IsAnswered old new taken written × ¬ IsOver taken × (length taken < TAKEN_MAX) × Rose old.read_faults new.read_faults
+    IsAnswered old new taken written × ¬ IsOver taken × (length taken < TAKEN_MAX)
+    × Rose old.read_faults new.read_faults
 -- a write failed: the greeting and the replies were written up to some byte, and not to their end
 HasEnded WriteFault old new taken written =
     IsPartOf written (output taken) × Rose old.write_faults new.write_faults

@@ -16,7 +16,8 @@ use std::alloc::{AllocError, Global};
 pub fn write_all<K: Sink>(output: &mut K, bytes: &[u8]) -> Result<(), Ended>
     ensures ok { OnOk result (Wrote (written (K.held output.old) (K.write_faults output.old))
         (written (K.held output.new) (K.write_faults output.new)) bytes.now) }
-    ensures err { IfErr result (λ ended. Stops ended (written (K.held output.old) (K.write_faults output.old))
+    ensures err { IfErr result (λ ended. Stops ended
+        (written (K.held output.old) (K.write_faults output.old))
         (written (K.held output.new) (K.write_faults output.new)) bytes.now) }
 {
     let mut at = 0;
@@ -51,7 +52,8 @@ pub fn answer<K: Sink>(
     ensures ok { OnOk result (Wrote (written (K.held output.old) (K.write_faults output.old))
         (written (K.held output.new) (K.write_faults output.new)) (reply_bytes item.reply)) }
     ensures keeps { OnOk result (kept.new ≡ kept.old ++ option_to_list item.kept) }
-    ensures err { IfErr result (λ ended. Stops ended (written (K.held output.old) (K.write_faults output.old))
+    ensures err { IfErr result (λ ended. Stops ended
+        (written (K.held output.old) (K.write_faults output.old))
         (written (K.held output.new) (K.write_faults output.new)) (reply_bytes item.reply)) }
 {
     let Item { reply, kept: text } = item;
@@ -69,11 +71,14 @@ pub fn serve_lines<K: Sink>(
     kept: &mut Texts,
 ) -> Result<(), Ended>
     ensures ok { OnOk result (Answers
-        (standing phase.old lines.old (written (K.held output.old) (K.write_faults output.old)) kept.old)
-        (standing phase.new lines.new (written (K.held output.new) (K.write_faults output.new)) kept.new)) }
+        (standing phase.old lines.old
+        (written (K.held output.old) (K.write_faults output.old)) kept.old)
+        (standing phase.new lines.new
+        (written (K.held output.new) (K.write_faults output.new)) kept.new)) }
     ensures idle { OnOk result (IsIdle phase.new lines.new) }
     ensures err { IfErr result (λ ended. StopsAnswering ended
-        (standing phase.old lines.old (written (K.held output.old) (K.write_faults output.old)) kept.old)
+        (standing phase.old lines.old
+        (written (K.held output.old) (K.write_faults output.old)) kept.old)
         (written (K.held output.new) (K.write_faults output.new))) }
 {
     'lines: while *phase != Phase::Over {

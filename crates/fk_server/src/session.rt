@@ -103,7 +103,8 @@ fn read_piece<S: Source>(input: &mut S, piece: &mut [u8], room: u64) -> Result<u
     requires holds { 0 < length piece.old }
     requires room { 0 < room }
     ensures count { IfOk result (λ count. (count ≤ length piece.new) × (count ≤ room)) }
-    ensures took { IfOk result (λ count. Took (S.left input.old) (take count piece.new) (S.left input.new)) }
+    ensures took { IfOk result (λ count.
+        Took (S.left input.old) (take count piece.new) (S.left input.new)) }
     ensures end { result ≡ Ok 0 → IsAtEnd (S.left input.old) }
     ensures later { S.read_faults input.old ≤ S.read_faults input.new }
     ensures err { IfErr result (λ ended. (ended ≡ ReadFault)
