@@ -1,2 +1,6 @@
 pub mod Numbers
 pub mod Forms
+pub mod Integers
+pub mod Parts
+pub mod Utf8Strings
+pub mod Strings

@@ -1,2 +1,7 @@
 pub mod Text
 pub mod Plain
+pub mod String
+pub mod Number
+pub mod Json
+pub mod Pairs
+pub mod Pieces

@@ -1,10 +1,26 @@
-//! Texts as lists of bytes, and the plain form of a job that stands in for a JSON reader.
+//! Texts as lists of bytes, JSON with the places of its parts, and the plain form of a job that
+//! stands in for JSON where a job is read.
 #![tactic(auto)]
 
+mod fault;
+mod member;
+mod number;
+mod pairs;
+mod piece;
 mod plain;
+mod span;
+mod string;
+#[cfg(test)]
+mod tests;
 mod text;
 mod texts;
 
+pub use fault::JsonFault;
+pub use member::{Member, Members};
+pub use number::integer_value;
+pub use pairs::Pairs;
 pub use plain::plain_form;
+pub use span::{Span, Spans};
+pub use string::{push_string, string_value};
 pub use text::Text;
 pub use texts::Texts;

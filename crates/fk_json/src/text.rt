@@ -64,6 +64,11 @@ impl Text {
         self.owned.extend_from_slice(bytes)
     }
 
+    // Where copies of the text take their memory.
+    pub(crate) fn allocator(&self) -> Global {
+        *self.owned.allocator()
+    }
+
     pub fn bytes(&self) -> &[u8]
         ensures { result.now ≡ self.now }
     {

@@ -45,6 +45,13 @@ impl Texts {
         self.texts.get(at)
     }
 
+    /// All texts, in order.
+    pub fn as_slice(&self) -> &[Text]
+        ensures { result.now ≡ self.now }
+    {
+        &self.texts
+    }
+
     /// The number of texts.
     pub fn len(&self) -> usize
         ensures { result ≡ length self.now }
