@@ -1,0 +1,5 @@
+pub mod Pairs
+pub mod Endings
+pub mod Forms
+pub mod Days
+pub mod Written
