@@ -1,0 +1,6 @@
+pub mod Jobs
+pub mod RowText
+pub mod Faults
+pub mod Members
+pub mod Fields
+pub mod JobText

@@ -1,0 +1,122 @@
+ghost use Rattle.std.specs.Prelude.{◌≡◌, ◌∷◌, ◌++◌, ◌+◌, ◌<◌, ◌≤◌, ◌↔◌, [], length, slice_get, IsOk, IsTrue, OnErr, OnOk};
+ghost use Rattle.std.specs.Option.{option_copied};
+
+use crate::Job;
+use std::alloc::{AllocError, Global};
+use std::marker::Model;
+
+/// A list of jobs, and the number of those that may be added without taking memory.
+#[derive(Debug, Drop)]
+pub struct Jobs {
+    jobs: Vec<Job>,
+}
+
+impl Model for Jobs {
+    ghost use Rattle.std.specs.Prelude.{◌-◌, vec_len, vec_capacity};
+    ghost use Rattle.fk_job.specs.Jobs.{Room};
+
+    ghost Value = { Room };
+
+    ghost view = { λ jobs. record {
+      items = jobs.jobs.items;
+      spare = vec_capacity jobs.jobs - vec_len jobs.jobs;
+    } };
+}
+
+impl Jobs {
+    /// The empty list. It takes no memory.
+    pub fn new(alloc: Global) -> Jobs
+        ensures { result.items ≡ [] }
+    {
+        Jobs {
+            jobs: Vec::new(alloc),
+        }
+    }
+
+    /// Makes room for more jobs. The jobs stay, and so does the room that was there.
+    pub fn reserve(&mut self, more: usize) -> Result<(), AllocError>
+        ensures ok { OnOk result (more ≤ self.new.spare) }
+        ensures kept { self.old.spare ≤ self.new.spare }
+        ensures same { self.new.items ≡ self.old.items }
+        ensures ready { more ≤ self.old.spare → IsOk result }
+    {
+        self.jobs.reserve(more)
+    }
+
+    /// Adds a job at the end, or leaves the list as it is. It can't fail where there is room.
+    pub fn push(&mut self, item: Job) -> Result<(), AllocError>
+        ensures ok { OnOk result (self.new.items ≡ self.old.items ++ item ∷ []) }
+        ensures err { OnErr result (self.new.items ≡ self.old.items) }
+        ensures kept { self.old.spare ≤ self.new.spare + 1 }
+        ensures stays { OnErr result (self.old.spare ≤ self.new.spare) }
+        ensures ready { 0 < self.old.spare → IsOk result }
+    {
+        self.jobs.reserve(1)?;
+        self.jobs.push_reserved(item);
+        Ok(())
+    }
+
+    /// The job at a place, counted from 0, or `None` past the end.
+    pub fn get(&self, at: usize) -> Option<&Job>
+        ensures { option_copied result ≡ slice_get self.now.items at }
+    {
+        self.jobs.get(at)
+    }
+
+    /// The number of jobs.
+    pub fn len(&self) -> usize
+        ensures { result ≡ length self.now.items }
+    {
+        self.jobs.len()
+    }
+
+    pub fn is_empty(&self) -> bool
+        ensures { IsTrue result ↔ (self.now.items ≡ []) }
+    {
+        self.jobs.is_empty()
+    }
+
+    /// Takes all jobs out. The room that they took is room again.
+    pub fn clear(&mut self)
+        ensures items { self.new.items ≡ [] }
+        ensures kept { length self.old.items + self.old.spare ≤ self.new.spare }
+    {
+        self.jobs.clear();
+    }
+}
+
+#[cfg(test)]
+mod tests {
+    use super::*;
+    use fk_json::Text;
+    use std::test::Fail;
+
+    /// A job of this jid, with the defaults.
+    fn job(alloc: Global, jid: &'static [u8]) -> Job {
+        Job {
+            jid: Text::fixed(alloc, jid),
+            jobtype: Text::fixed(alloc, b"Mail"),
+            queue: Text::fixed(alloc, b"default"),
+            retry: 25,
+            reserve_for: 1800,
+            at: None,
+            has_created: false,
+            body: Text::fixed(alloc, b"\"args\":[]"),
+        }
+    }
+
+    #[test]
+    fn jobs_stand_in_order_and_are_taken_out(rt: HostRuntime) -> Result<(), Fail> {
+        let mut jobs = Jobs::new(rt.alloc());
+        jobs.reserve(2)?;
+        jobs.push(job(rt.alloc(), b"abcdefgh"))?;
+        jobs.push(job(rt.alloc(), b"ijklmnop").copied()?)?;
+        assert_eq!(rt; jobs.len(), 2);
+        let second = jobs.get(1).map(|job| (job.jid.bytes(), job.retry));
+        assert_eq!(rt; second, Some((b"ijklmnop".as_slice(), 25)));
+        assert_eq!(rt; jobs.get(2).is_none(), true);
+        jobs.clear();
+        assert_eq!(rt; jobs.is_empty(), true);
+        Ok(())
+    }
+}

@@ -1,0 +1,16 @@
+//! The payload of a job: what a producer sends, and what a worker is given.
+#![tactic(auto)]
+
+mod failure;
+mod fault;
+mod job;
+mod jobs;
+mod stamp;
+mod writing;
+
+pub use failure::Failure;
+pub use fault::JobFault;
+pub use job::Job;
+pub use jobs::Jobs;
+pub use stamp::Stamp;
+pub use writing::write_job;

@@ -1,0 +1,244 @@
+ghost use Rattle.std.specs.Prelude.{◌≡◌, ◌∷◌, ◌++◌, ◌≤◌, codes, flat_map, IfOk, IfSome, OnOk};
+ghost use Rattle.std.specs.Fmt.{decimal};
+ghost use Rattle.std.specs.Str.{byte};
+ghost use Rattle.fk_json.specs.String.{spelling};
+ghost use Rattle.fk_time.specs.Moments.{greatest, moment_text};
+ghost use Rattle.fk_job.specs.RowText.{HasFailureMoments, HasMoments, IsPlainName, failure_text, further, further_created, further_failure, further_moment, further_strings, row_text, written_member};
+
+use crate::{Failure, Job, Stamp};
+use fk_json::{Text, Texts, push_string};
+use fk_time::write_moment;
+use std::alloc::{AllocError, Global};
+
+/// The text that a worker is given for a job: what the producer sent, with what the server knows of
+/// it.
+#[tactic(auto, unfolding(crate::specs::RowText::row_text))]
+pub fn write_job(alloc: Global, job: &Job, stamp: &Stamp) -> Result<Text, AllocError>
+    requires { HasMoments stamp.now }
+    ensures { IfOk result (λ text. text ≡ row_text job.now stamp.now) }
+{
+    let mut out = Text::copy(alloc, b"{")?;
+    out.push_bytes(job.body.bytes())?;
+    push_text(&mut out, b"queue", &job.queue)?;
+    push_created(alloc, &mut out, job, stamp)?;
+    push_optional_moment(alloc, &mut out, b"enqueued_at", stamp.enqueued)?;
+    push_failure(alloc, &mut out, &stamp.failure)?;
+    out.push_bytes(b"}")?;
+    Ok(out)
+}
+
+/// Adds a comma, a name and a colon.
+fn push_name(out: &mut Text, name: &[u8]) -> Result<(), AllocError>
+    requires { IsPlainName name.now }
+    ensures { OnOk result (out.new ≡ out.old ++ (codes "," ++ (spelling name.now ++ codes ":"))) }
+{
+    out.push_bytes(b",\"")?;
+    out.push_bytes(name)?;
+    out.push_bytes(b"\":")
+}
+
+/// Adds a member with a string.
+fn push_text(out: &mut Text, name: &[u8], value: &Text) -> Result<(), AllocError>
+    requires { IsPlainName name.now }
+    ensures { OnOk result (out.new ≡ out.old ++ further name.now (spelling value.now)) }
+{
+    push_name(out, name)?;
+    push_string(out, value)
+}
+
+/// Adds a member with a moment.
+fn push_moment(alloc: Global, out: &mut Text, name: &[u8], moment: u64) -> Result<(), AllocError>
+    requires name { IsPlainName name.now }
+    requires moment { moment ≤ greatest }
+    ensures { OnOk result (out.new ≡ out.old ++ further name.now (spelling (moment_text moment))) }
+{
+    let text = Text::copy(alloc, &write_moment(moment))?;
+    push_text(out, name, &text)
+}
+
+/// Adds a member with a moment, if there is one.
+#[tactic(auto, unfolding(crate::specs::RowText::further_moment))]
+fn push_optional_moment(
+    alloc: Global,
+    out: &mut Text,
+    name: &[u8],
+    moment: Option<u64>,
+) -> Result<(), AllocError>
+    requires name { IsPlainName name.now }
+    requires moment { IfSome moment (λ moment. moment ≤ greatest) }
+    ensures { OnOk result (out.new ≡ out.old ++ further_moment name.now moment) }
+{
+    match moment {
+        None => Ok(()),
+        Some(moment) => push_moment(alloc, out, name, moment),
+    }
+}
+
+/// Adds the moment at which the job was pushed, unless the producer sent a `created_at`.
+#[tactic(auto, unfolding(crate::specs::RowText::further_created))]
+fn push_created(alloc: Global, out: &mut Text, job: &Job, stamp: &Stamp) -> Result<(), AllocError>
+    requires { stamp.now.created ≤ greatest }
+    ensures { OnOk result (out.new ≡ out.old ++ further_created job.now stamp.now) }
+{
+    if job.has_created {
+        return Ok(());
+    }
+    push_optional_moment(alloc, out, b"created_at", Some(stamp.created))
+}
+
+/// Adds the job's failure, if it has one.
+#[tactic(auto, unfolding(crate::specs::RowText::further_failure))]
+fn push_failure(alloc: Global, out: &mut Text, failure: &Option<Failure>) -> Result<(), AllocError>
+    requires { IfSome failure.now HasFailureMoments }
+    ensures { OnOk result (out.new ≡ out.old ++ further_failure failure.now) }
+{
+    match failure {
+        None => Ok(()),
+        Some(failure) => push_failed(alloc, out, failure),
+    }
+}
+
+/// Adds a member with a failure as an object.
+fn push_failed(alloc: Global, out: &mut Text, failure: &Failure) -> Result<(), AllocError>
+    requires { HasFailureMoments failure.now }
+    ensures { OnOk result
+        (out.new ≡ out.old ++ further (codes "failure") (failure_text failure.now)) }
+{
+    push_name(out, b"failure")?;
+    push_count(alloc, out, failure.count)?;
+    push_moment(alloc, out, b"failed_at", failure.failed)?;
+    push_optional_moment(alloc, out, b"next_at", failure.next)?;
+    push_text(out, b"errtype", &failure.errtype)?;
+    push_text(out, b"message", &failure.message)?;
+    push_backtrace(out, &failure.backtrace)?;
+    out.push_bytes(b"}")
+}
+
+/// Opens a failure's object with its count.
+fn push_count(alloc: Global, out: &mut Text, count: u64) -> Result<(), AllocError>
+    ensures { OnOk result (out.new
+        ≡ out.old ++ (codes "{" ++ written_member (codes "retry_count") (decimal count))) }
+{
+    let text = format!(in alloc; "{{\"retry_count\":{count}")?;
+    out.push_bytes(text.as_bytes())
+}
+
+/// Adds the backtrace, if it has a line.
+fn push_backtrace(out: &mut Text, backtrace: &Texts) -> Result<(), AllocError>
+    ensures { OnOk result (out.new ≡ out.old ++ further_strings (codes "backtrace") backtrace.now) }
+{
+    let Some((first, others)) = backtrace.as_slice().split_first() else {
+        return Ok(());
+    };
+    push_name(out, b"backtrace")?;
+    out.push_bytes(b"[")?;
+    push_string(out, first)?;
+    push_others(out, others)?;
+    out.push_bytes(b"]")
+}
+
+/// Adds each text as a string behind a comma.
+fn push_others(out: &mut Text, texts: &[Text]) -> Result<(), AllocError>
+    ensures { OnOk result (out.new
+        ≡ out.old ++ flat_map (λ text. byte "," ∷ spelling text) texts.now) }
+{
+    for text in texts {
+        out.push_bytes(b",")?;
+        push_string(out, text)?;
+    }
+    Ok(())
+}
+
+#[cfg(test)]
+mod tests {
+    use super::*;
+    use std::test::Fail;
+
+    /// 2023-11-14T22:13:20.000Z.
+    const NOW: u64 = 1_700_000_000_000;
+
+    /// A job with these members, in the default queue.
+    fn job(alloc: Global, body: &'static [u8]) -> Job {
+        Job {
+            jid: Text::fixed(alloc, b"abcdefgh"),
+            jobtype: Text::fixed(alloc, b"Mail"),
+            queue: Text::fixed(alloc, b"default"),
+            retry: 25,
+            reserve_for: 1800,
+            at: None,
+            has_created: false,
+            body: Text::fixed(alloc, body),
+        }
+    }
+
+    #[test]
+    fn a_queued_job_has_its_moments(rt: HostRuntime) -> Result<(), Fail> {
+        let body = b"\"jid\":\"abcdefgh\",\"jobtype\":\"Mail\",\"args\":[1,2.50]";
+        let stamp = Stamp {
+            created: NOW,
+            enqueued: Some(NOW),
+            failure: None,
+        };
+        let text = write_job(rt.alloc(), &job(rt.alloc(), body), &stamp)?;
+        let wanted = "{\"jid\":\"abcdefgh\",\"jobtype\":\"Mail\",\"args\":[1,2.50],\
+            \"queue\":\"default\",\"created_at\":\"2023-11-14T22:13:20.000Z\",\
+            \"enqueued_at\":\"2023-11-14T22:13:20.000Z\"}";
+        assert_eq!(rt; text.bytes(), wanted.as_bytes());
+        assert_eq!(rt; text.len(), 150);
+        Ok(())
+    }
+
+    #[test]
+    fn a_failed_job_has_its_failure(rt: HostRuntime) -> Result<(), Fail> {
+        let body = b"\"jid\":\"abcdefgh\",\"jobtype\":\"Mail\",\"args\":[],\"retry\":1";
+        let stamp = Stamp {
+            created: NOW,
+            enqueued: Some(NOW + 16_000),
+            failure: Some(Failure {
+                count: 0,
+                failed: NOW,
+                next: Some(NOW + 16_000),
+                errtype: Text::fixed(rt.alloc(), b"Oops"),
+                message: Text::fixed(rt.alloc(), b"down"),
+                backtrace: Texts::new(rt.alloc()),
+            }),
+        };
+        let text = write_job(rt.alloc(), &job(rt.alloc(), body), &stamp)?;
+        let wanted = "{\"jid\":\"abcdefgh\",\"jobtype\":\"Mail\",\"args\":[],\"retry\":1,\
+            \"queue\":\"default\",\"created_at\":\"2023-11-14T22:13:20.000Z\",\
+            \"enqueued_at\":\"2023-11-14T22:13:36.000Z\",\"failure\":{\"retry_count\":0,\
+            \"failed_at\":\"2023-11-14T22:13:20.000Z\",\"next_at\":\"2023-11-14T22:13:36.000Z\",\
+            \"errtype\":\"Oops\",\"message\":\"down\"}}";
+        assert_eq!(rt; text.bytes(), wanted.as_bytes());
+        assert_eq!(rt; text.len(), 292);
+        Ok(())
+    }
+
+    #[test]
+    fn a_dead_job_has_no_next_moment_and_a_backtrace(rt: HostRuntime) -> Result<(), Fail> {
+        let mut backtrace = Texts::new(rt.alloc());
+        backtrace.push(Text::fixed(rt.alloc(), b"mail.rb:7"))?;
+        backtrace.push(Text::fixed(rt.alloc(), b"say \"no\"\n"))?;
+        let stamp = Stamp {
+            created: NOW,
+            enqueued: None,
+            failure: Some(Failure {
+                count: 12,
+                failed: NOW,
+                next: None,
+                errtype: Text::fixed(rt.alloc(), b"unknown"),
+                message: Text::fixed(rt.alloc(), b""),
+                backtrace,
+            }),
+        };
+        let mut dead = job(rt.alloc(), b"\"jid\":\"abcdefgh\",\"created_at\":7");
+        dead.has_created = true;
+        let text = write_job(rt.alloc(), &dead, &stamp)?;
+        let wanted = "{\"jid\":\"abcdefgh\",\"created_at\":7,\"queue\":\"default\",\
+            \"failure\":{\"retry_count\":12,\"failed_at\":\"2023-11-14T22:13:20.000Z\",\
+            \"errtype\":\"unknown\",\"message\":\"\",\
+            \"backtrace\":[\"mail.rb:7\",\"say \\\"no\\\"\\n\"]}}";
+        assert_eq!(rt; text.bytes(), wanted.as_bytes());
+        Ok(())
+    }
+}
