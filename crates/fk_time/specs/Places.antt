@@ -51,7 +51,14 @@ front_at text =
       hour ← pair_at text 11
       minute ← pair_at text 14
       second ← pair_at text 17
-      Some (record { year = century * 100 + year; month = month; day = day; hour = hour; minute = minute; second = second }))
+      Some (record {
+        year = century * 100 + year;
+        month = month;
+        day = day;
+        hour = hour;
+        minute = minute;
+        second = second;
+      }))
     else None
 
 -- one or more digits
