@@ -65,10 +65,11 @@ IsFirstFault text members (Syntax at) = ⊥
 IsFirstFault text members (TooDeep at) = ⊥
 IsFirstFault text members NoMemory = ⊥
 
--- what a text that isn't read as a job has for a fault: the place where it stops being an object, or
--- the first fault of its members
+-- what a text that isn't read as a job has for a fault: the place where it stops being an object,
+-- or the first fault of its members
 abbrev pub HasFault : List ℕ → JobFault → Type 0
 HasFault text (Syntax at) = FailsAt IsObjectText text at
 HasFault text (TooDeep at) = IsTooDeepAt IsObjectText text at
 HasFault text fault =
-    (members : List Member) × IsObjectText most_levels text members × IsFirstFault text members fault
+    (members : List Member) × IsObjectText most_levels text members
+    × IsFirstFault text members fault

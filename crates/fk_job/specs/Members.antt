@@ -30,14 +30,17 @@ given_value text members name = unless_null (value_of text members name)
 abbrev pub counting_members : List Member → List Member
 counting_members [] = []
 counting_members (member ∷ members) =
-    if list_any (is_named member.name) members then counting_members members else member ∷ counting_members members
+    if list_any (is_named member.name) members
+    then counting_members members
+    else member ∷ counting_members members
 
 -- what the server writes itself isn't handed on
 abbrev pub is_handed_on : List ℕ → Member → Bool
 is_handed_on text member =
     not (is_named (codes "queue") member) && not (is_named (codes "enqueued_at") member)
     && not (is_named (codes "failure") member)
-    && not (is_named (codes "created_at") member && bytes_eq (sent_value text member) (codes "null"))
+    && not (is_named (codes "created_at") member
+    && bytes_eq (sent_value text member) (codes "null"))
 
 -- a member as it was sent, without the white space around its colon
 abbrev pub sent_member : List ℕ → Member → List ℕ
@@ -47,4 +50,5 @@ sent_member text member =
 -- the members that count and are handed on, with commas between them
 abbrev pub body_of : List ℕ → List Member → List ℕ
 body_of text members =
-    join_with_byte (byte ",") (map (sent_member text) (filter (is_handed_on text) (counting_members members)))
+    join_with_byte (byte ",")
+    (map (sent_member text) (filter (is_handed_on text) (counting_members members)))

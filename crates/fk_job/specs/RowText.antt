@@ -50,8 +50,8 @@ unfoldable pub further_created : Job → Stamp → List ℕ
 further_created job stamp =
     if job.has_created then [] else further_moment (codes "created_at") (Some stamp.created)
 
--- the text of a job with its stamp. Only a crafted file has a job with an empty body, whose text then
--- begins with a comma behind the bracket
+-- the text of a job with its stamp. Only a crafted file has a job with an empty body, whose text
+-- then begins with a comma behind the bracket
 unfoldable pub row_text : Job → Stamp → List ℕ
 row_text job stamp =
     codes "{" ++ job.body

@@ -5,9 +5,9 @@ use thiserror::Error;
 /// Why a text is no job.
 ///
 /// Of `Syntax` and `TooDeep` the one with the earlier place is told, and of those from `NoJid` to
-/// `BadAt`, which come only of a text that is one JSON object, the first in this order. Want of memory may
-/// come in the place of any. For `queue`, `reserve_for`, `retry` and `at` null counts as absent, and
-/// so does the empty string for `queue` and `at`.
+/// `BadAt`, which come only of a text that is one JSON object, the first in this order. Want of
+/// memory may come in the place of any. For `queue`, `reserve_for`, `retry` and `at` null counts as
+/// absent, and so does the empty string for `queue` and `at`.
 #[derive(Debug, Drop, Error)]
 pub enum JobFault {
     /// It stops being a JSON object at this byte, counted from 0, or ends here too early.

@@ -22,7 +22,8 @@ value_span member = record { from = member.from; to = member.to }
 -- ---- arrays and objects, over what a value in them is; `at` is the place where a piece begins
 
 -- a value with white space around it, and the place of the value
-pub record IsElement (IsInner : List ℕ → Type 0) (at : ℕ) (text : List ℕ) (span : Span) : Type 0 where
+pub record IsElement
+    (IsInner : List ℕ → Type 0) (at : ℕ) (text : List ℕ) (span : Span) : Type 0 where
   pub before : List ℕ
   pub value : List ℕ
   pub after : List ℕ
@@ -34,7 +35,8 @@ pub record IsElement (IsInner : List ℕ → Type 0) (at : ℕ) (text : List ℕ
 
 -- A name, a colon and a value, with white space around each: the decoded name, the place of the
 -- name with its quotes, and the place of the value.
-pub record IsMember (IsInner : List ℕ → Type 0) (at : ℕ) (text : List ℕ) (member : Member) : Type 0 where
+pub record IsMember
+    (IsInner : List ℕ → Type 0) (at : ℕ) (text : List ℕ) (member : Member) : Type 0 where
   pub before : List ℕ
   pub name : List ℕ
   pub after : List ℕ
@@ -59,11 +61,13 @@ AreJoined IsItem at text (item ∷ next ∷ items) =
 abbrev pub AreItems : {I : Type 0} → (ℕ → List ℕ → I → Type 0) → ℕ → List ℕ → List I → Type 0
 AreItems IsItem at text items = ((items ≡ []) × IsSpace text) ⊎ AreJoined IsItem at text items
 
+-- an array: elements between brackets
 abbrev pub IsArray : (List ℕ → Type 0) → ℕ → List ℕ → List Span → Type 0
 IsArray IsInner at text elements =
     (inner : List ℕ) × AreItems (IsElement IsInner) (at + 1) inner elements
     × (text ≡ codes "[" ++ inner ++ codes "]")
 
+-- an object: members between braces
 abbrev pub IsObject : (List ℕ → Type 0) → ℕ → List ℕ → List Member → Type 0
 IsObject IsInner at text members =
     (inner : List ℕ) × AreItems (IsMember IsInner) (at + 1) inner members
@@ -91,7 +95,9 @@ IsValue (suc levels) text =
 -- ---- texts
 
 -- a part with white space around it
-pub record IsText {I : Type 0} (IsPart : ℕ → List ℕ → List I → Type 0) (text : List ℕ) (items : List I) : Type 0 where
+pub record IsText
+    {I : Type 0} (IsPart : ℕ → List ℕ → List I → Type 0) (text : List ℕ) (items : List I)
+    : Type 0 where
   pub before : List ℕ
   pub part : List ℕ
   pub after : List ℕ
@@ -111,11 +117,12 @@ IsArrayText (suc levels) text elements = IsText (IsArray (IsValue levels)) text 
 
 -- ---- where a text stops being one, over what a text of at most so many levels is
 
--- more bytes can make it a text of at most so many levels
+-- with more bytes, or none, it is a text of at most so many levels
 abbrev pub Begins : {I : Type 0} → (ℕ → List ℕ → List I → Type 0) → ℕ → List ℕ → Type 0
-Begins {I} IsTextOf levels text = (rest : List ℕ) × (items : List I) × IsTextOf levels (text ++ rest) items
+Begins {I} IsTextOf levels text =
+    (rest : List ℕ) × (items : List I) × IsTextOf levels (text ++ rest) items
 
--- more bytes can make it a text
+-- with more bytes, or none, it is a text of some depth
 abbrev pub BeginsSome : {I : Type 0} → (ℕ → List ℕ → List I → Type 0) → List ℕ → Type 0
 BeginsSome IsTextOf text = (levels : ℕ) × Begins IsTextOf levels text
 
@@ -125,15 +132,18 @@ most_levels = 127
 
 -- The text is none, `at` is the length of its longest prefix that begins one, and that prefix
 -- doesn't go too deep.
-pub record FailsAt {I : Type 0} (IsTextOf : ℕ → List ℕ → List I → Type 0) (text : List ℕ) (at : ℕ) : Type 0 where
+pub record FailsAt
+    {I : Type 0} (IsTextOf : ℕ → List ℕ → List I → Type 0) (text : List ℕ) (at : ℕ) : Type 0 where
   pub inside : at ≤ length text
   pub begins : Begins IsTextOf most_levels (take at text)
-  pub longest : (longer : ℕ) → at < longer → longer ≤ length text → ¬ BeginsSome IsTextOf (take longer text)
+  pub longest : (longer : ℕ) → at < longer → longer ≤ length text
+      → ¬ BeginsSome IsTextOf (take longer text)
   pub none : (levels : ℕ) (items : List I) → ¬ IsTextOf levels text items
 
 -- The prefix before `at` begins a text that doesn't go too deep, and with the byte at `at` it still
 -- begins a text, but none that doesn't: that byte is the first bracket of a level too many.
-pub record IsTooDeepAt {I : Type 0} (IsTextOf : ℕ → List ℕ → List I → Type 0) (text : List ℕ) (at : ℕ) : Type 0 where
+pub record IsTooDeepAt
+    {I : Type 0} (IsTextOf : ℕ → List ℕ → List I → Type 0) (text : List ℕ) (at : ℕ) : Type 0 where
   pub inside : at < length text
   pub begins : Begins IsTextOf most_levels (take at text)
   pub goes_on : BeginsSome IsTextOf (take (at + 1) text)

@@ -20,7 +20,8 @@ IsWhole text = (text ≡ codes "0") ⊎ (AreDigits text × (slice_index text 0 �
 
 -- nothing, or a point and digits
 abbrev pub IsFraction : List ℕ → Type 0
-IsFraction text = (text ≡ []) ⊎ ((digits : List ℕ) × AreDigits digits × (text ≡ codes "." ++ digits))
+IsFraction text =
+    (text ≡ []) ⊎ ((digits : List ℕ) × AreDigits digits × (text ≡ codes "." ++ digits))
 
 -- nothing, a plus or a minus
 abbrev pub IsSign : List ℕ → Type 0
@@ -33,6 +34,7 @@ IsExponent text =
     ⊎ ((letter : ℕ) × (sign digits : List ℕ) × Contains (codes "eE") letter × IsSign sign
     × AreDigits digits × (text ≡ letter ∷ sign ++ digits))
 
+-- a number: its four parts, one behind the other
 pub record IsNumber (text : List ℕ) : Type 0 where
   pub minus : List ℕ
   pub digits : List ℕ

@@ -1,12 +1,15 @@
--- JSON strings (RFC 8259, section 7): the one spelling that is written, and the texts that are read.
+-- JSON strings (RFC 8259, section 7): the one spelling that is written, and the texts that are
+-- read.
 use Rattle.std.specs.Prelude.{◌≡◌, ◌≢◌, ℕ, ◌+◌, ◌*◌, ◌/◌, ◌%◌, ◌<◌, ◌≤◌, ◌==◌, ◌&&◌, ◌||◌, nat_lt, Bool, true, if◌then◌else◌, List, [], ◌∷◌, ◌++◌, codes, flat_map, IsUtf8, encode_utf8}
 use Rattle.std.specs.Char.{digit_value, digit_char}
 use Rattle.std.specs.Char.Utf16.{is_high_surrogate, is_low_surrogate, surrogate_pair_char}
 use Rattle.std.specs.List.{AllByRecursion}
 
+-- the byte at both ends of a string
 abbrev pub quote : ℕ
 quote = 34
 
+-- the byte before an escape
 abbrev pub backslash : ℕ
 backslash = 92
 
@@ -42,11 +45,13 @@ pub data Part : Type 0 where
   letter : ℕ → Part
   unit : ℕ → ℕ → ℕ → ℕ → Part
 
+-- the bytes of a part
 abbrev pub part_text : Part → List ℕ
 part_text (byte b) = b ∷ []
 part_text (letter l) = backslash ∷ l ∷ []
 part_text (unit a b c d) = backslash ∷ 117 ∷ a ∷ b ∷ c ∷ d ∷ []
 
+-- a digit of base 16, in either case
 abbrev pub IsHexadecimal : ℕ → Type 0
 IsHexadecimal digit = digit_value digit < 16
 
@@ -77,11 +82,13 @@ abbrev pub code_unit : ℕ → ℕ → ℕ → ℕ → ℕ
 code_unit a b c d =
     digit_value a * 4096 + digit_value b * 256 + digit_value c * 16 + digit_value d
 
--- a code unit that is in no pair: itself, and U+FFFD where it is a surrogate
+-- the character of a code unit that is in no pair, in UTF-8: U+FFFD where the unit is a surrogate
 abbrev pub lone_unit : ℕ → List ℕ
-lone_unit u = encode_utf8 (if is_high_surrogate u then 0xFFFD else if is_low_surrogate u then 0xFFFD else u)
+lone_unit u =
+    encode_utf8 (if is_high_surrogate u then 0xFFFD else if is_low_surrogate u then 0xFFFD else u)
 
--- what the parts stand for: two units that are a surrogate pair are one character (RFC 3629)
+-- what the parts stand for, in UTF-8 (RFC 3629): two units that are a surrogate pair are one
+-- character (RFC 8259, section 7)
 abbrev pub meaning : List Part → List ℕ
 meaning [] = []
 meaning (byte b ∷ parts) = b ∷ meaning parts

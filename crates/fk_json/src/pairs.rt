@@ -16,7 +16,10 @@ impl Model for Pairs {
 
     ghost Value = { Room };
 
-    ghost view = { λ p. record { items = p.pairs.items; spare = vec_capacity p.pairs - vec_len p.pairs } };
+    ghost view = { λ pairs. record {
+      items = pairs.pairs.items;
+      spare = vec_capacity pairs.pairs - vec_len pairs.pairs;
+    } };
 }
 
 impl Pairs {
