@@ -5,15 +5,18 @@
 mod fault;
 mod member;
 mod number;
+mod number_mode;
 mod pairs;
 mod piece;
 mod plain;
 mod span;
 mod string;
+mod string_mode;
 #[cfg(test)]
 mod tests;
 mod text;
 mod texts;
+mod token;
 
 pub use fault::JsonFault;
 pub use member::{Member, Members};
