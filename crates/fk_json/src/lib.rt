@@ -4,6 +4,7 @@
 
 mod fault;
 mod member;
+mod mode;
 mod number;
 mod number_mode;
 mod pairs;
