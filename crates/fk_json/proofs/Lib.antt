@@ -4,3 +4,4 @@ pub mod Integers
 pub mod Parts
 pub mod Utf8Strings
 pub mod Strings
+pub mod NumberLeft
