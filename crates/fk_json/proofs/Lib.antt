@@ -5,3 +5,4 @@ pub mod Parts
 pub mod Utf8Strings
 pub mod Strings
 pub mod Spaces
+pub mod NumberLeft
