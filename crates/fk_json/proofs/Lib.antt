@@ -6,3 +6,4 @@ pub mod Utf8Strings
 pub mod Strings
 pub mod Spaces
 pub mod NumberLeft
+pub mod Fronts
