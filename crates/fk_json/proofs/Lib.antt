@@ -9,3 +9,4 @@ pub mod Strings
 pub mod Spaces
 pub mod NumberLeft
 pub mod Fronts
+pub mod TokenLeft
