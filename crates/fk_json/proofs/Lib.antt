@@ -6,3 +6,5 @@ pub mod Utf8Strings
 pub mod Strings
 pub mod Values
 pub mod Levels
+pub mod Spaces
+pub mod NumberLeft

@@ -236,3 +236,7 @@ TokenLeft (token.Number mode) text = NumberLeft mode text
 TokenLeft (token.Quoted mode) text = StringLeft mode text
 TokenLeft (token.Letters left) text = text ≡ letters_text left
 TokenLeft token.Bracketed text = text ≡ []
+
+-- what may stand behind a value inside of brackets: white space, a comma or a closing bracket
+abbrev pub follows : ℕ → Bool
+follows b = (b == 32) || (b == 9) || (b == 10) || (b == 13) || (b == 44) || (b == 93) || (b == 125)
