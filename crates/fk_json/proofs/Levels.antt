@@ -1,5 +1,5 @@
 -- More levels of brackets do no harm.
-use Rattle.std.proofs.Common.{◌≡◌, inl, inr, ℕ, zero, suc, ◌+◌, ◌≤◌, List, [], ◌∷◌, length, arith}
+use Rattle.std.proofs.Common.{inl, inr, ℕ, zero, suc, ◌+◌, ◌≤◌, List, [], ◌∷◌, length, arith}
 use Rattle.fk_json.specs.Json.{AreItems, AreJoined, IsArray, IsArrayText, IsElement, IsMember, IsObject, IsObjectText, IsText, IsValue, value_span}
 use Rattle.fk_json.specs.declared.member.Member.{Member}
 use Rattle.fk_json.specs.declared.span.Span.{Span}

@@ -1,12 +1,12 @@
 -- How a value begins.
-use Rattle.std.proofs.Common.{◌≡◌, ◌≢◌, ◌⊎◌, ◌↔◌, ◌==◌, ◌||◌, inl, inr, ℕ, zero, suc, Bool, true, false, List, [], ◌∷◌, ◌++◌, length, codes, if◌then◌else◌, option_map, Option, None, Some, refl, sym, ap, subst, ◌∙◌, arith}
-use Rattle.std.proofs.lemmas.Bool.{cases_eq, eq-eqb, eqb-true, ne_eqb, or_cases}
-use Rattle.std.proofs.lemmas.Option.{none-some, same_Some}
-use Rattle.fk_json.proofs.Parts.{head_of, tail_of}
+use Rattle.std.proofs.Common.{◌≡◌, ◌≢◌, ◌⊎◌, ◌↔◌, inl, inr, ℕ, zero, suc, true, List, [], ◌∷◌, length, option_map, Option, None, Some, refl, sym, ap, subst, arith}
+use Rattle.std.proofs.lemmas.Bool.{cases_eq, eqb-true, ne_eqb, or_cases}
+use Rattle.fk_json.proofs.NumberLeft.{literal_empty, literal_false, literal_none, literal_null, literal_true, number_begins, number_empty, number_none}
+use Rattle.fk_json.proofs.Parts.{head_of}
+use Rattle.fk_json.proofs.StringLeft.{string_begins, string_empty, string_none}
 use Rattle.fk_json.specs.Json.{IsArray, IsLiteral, IsObject, IsScalar, IsValue, is_space}
 use Rattle.fk_json.specs.Number.{IsNumber}
-use Rattle.fk_json.specs.String.{IsString}
-use Rattle.fk_json.specs.Tokens.{NumberLeft, StringLeft, TokenLeft, letters_text, number_first, token_first}
+use Rattle.fk_json.specs.Tokens.{StringLeft, TokenLeft, letters_text, number_first, token_first}
 use Rattle.fk_json.specs.declared.member.Member.{Member}
 use Rattle.fk_json.specs.declared.number_mode.NumberMode.{NumberMode}
 use Rattle.fk_json.specs.declared.span.Span.{Span}
@@ -16,141 +16,85 @@ use Rattle.fk_json.specs.declared.token.Letters.TheVariants.{Ull, Rue, Alse}
 use Rattle.fk_json.specs.declared.token.Token.TheVariants as token
 use Rattle.fk_json.specs.declared.token.Token.{Token}
 
--- how numbers and strings begin
-pub record Leaves : Type 0 where
-  pub number_begins : (next : NumberMode) (b : ℕ) (text : List ℕ) → number_first b ≡ Some next
-      → IsNumber (b ∷ text) ↔ NumberLeft next text
-  pub number_none : (b : ℕ) (text : List ℕ) → number_first b ≡ None → ¬ IsNumber (b ∷ text)
-  pub number_empty : ¬ IsNumber []
-  pub string_begins : (text : List ℕ)
-      → ((value : List ℕ) × IsString (34 ∷ text) value) ↔ StringLeft Inside text
-  pub string_none : (b : ℕ) (text value : List ℕ) → b ≢ 34 → ¬ IsString (b ∷ text) value
-  pub string_empty : (value : List ℕ) → ¬ IsString [] value
-
 no_cons : {b : ℕ} {text : List ℕ} → ¬ ([] ≡ b ∷ text)
 no_cons {text = text} e = absurd (omega (arith, ap length e))
 
--- ---- letters
-
--- a literal begins with a letter of its own, and the other letters are left
-abbrev LiteralLeft : ℕ → List ℕ → Type 0
-LiteralLeft b text =
-    ((b ≡ 110) × (text ≡ letters_text Ull))
-    ⊎ (((b ≡ 116) × (text ≡ letters_text Rue))
-    ⊎ ((b ≡ 102) × (text ≡ letters_text Alse)))
-
-literal_left : (b : ℕ) (text : List ℕ) → IsLiteral (b ∷ text) → LiteralLeft b text
-literal_left b text (inl e) = inl (head_of e, tail_of e)
-literal_left b text (inr (inl e)) = inr (inl (head_of e, tail_of e))
-literal_left b text (inr (inr e)) = inr (inr (head_of e, tail_of e))
-
-no_literal : (b : ℕ) (text : List ℕ) → b ≢ 110 → b ≢ 116 → b ≢ 102 → ¬ IsLiteral (b ∷ text)
-no_literal b text n t f (inl e) = n (head_of e)
-no_literal b text n t f (inr (inl e)) = t (head_of e)
-no_literal b text n t f (inr (inr e)) = f (head_of e)
-
-null_left : (text : List ℕ) → IsLiteral (110 ∷ text) → text ≡ letters_text Ull
-null_left text (inl e) = tail_of e
-null_left text (inr (inl e)) = absurd (omega (arith, head_of e))
-null_left text (inr (inr e)) = absurd (omega (arith, head_of e))
-
-true_left : (text : List ℕ) → IsLiteral (116 ∷ text) → text ≡ letters_text Rue
-true_left text (inl e) = absurd (omega (arith, head_of e))
-true_left text (inr (inl e)) = tail_of e
-true_left text (inr (inr e)) = absurd (omega (arith, head_of e))
-
-false_left : (text : List ℕ) → IsLiteral (102 ∷ text) → text ≡ letters_text Alse
-false_left text (inl e) = absurd (omega (arith, head_of e))
-false_left text (inr (inl e)) = absurd (omega (arith, head_of e))
-false_left text (inr (inr e)) = tail_of e
-
 -- ---- values without brackets, by their first byte
 
-null_begins : Leaves → (text : List ℕ) → IsScalar (110 ∷ text) ↔ (text ≡ letters_text Ull)
-null_begins leaves text = (null_on leaves text, λ e. inl (inl (ap (λ x. 110 ∷ x) e)))
-  where
-  null_on : Leaves → (text : List ℕ) → IsScalar (110 ∷ text) → text ≡ letters_text Ull
-  null_on leaves text (inl literal) = null_left text literal
-  null_on leaves text (inr (inl number)) = absurd (leaves.number_none 110 text refl number)
-  null_on leaves text (inr (inr (value, string))) =
-      absurd (leaves.string_none 110 text value (omega arith) string)
+-- what begins no number and no string is a literal
+only_literal : (b : ℕ) (text : List ℕ) → b ≢ 34 → number_first b ≡ None → IsScalar (b ∷ text)
+    → IsLiteral (b ∷ text)
+only_literal b text q none (inl literal) = literal
+only_literal b text q none (inr (inl number)) = absurd (number_none b text none number)
+only_literal b text q none (inr (inr (value, string))) = absurd (string_none b text value q string)
 
-true_begins : Leaves → (text : List ℕ) → IsScalar (116 ∷ text) ↔ (text ≡ letters_text Rue)
-true_begins leaves text = (true_on leaves text, λ e. inl (inr (inl (ap (λ x. 116 ∷ x) e))))
-  where
-  true_on : Leaves → (text : List ℕ) → IsScalar (116 ∷ text) → text ≡ letters_text Rue
-  true_on leaves text (inl literal) = true_left text literal
-  true_on leaves text (inr (inl number)) = absurd (leaves.number_none 116 text refl number)
-  true_on leaves text (inr (inr (value, string))) =
-      absurd (leaves.string_none 116 text value (omega arith) string)
+literal_begins : (b : ℕ) (text : List ℕ) (left : Letters) → b ≢ 34 → number_first b ≡ None
+    → IsLiteral (b ∷ text) ↔ (text ≡ letters_text left) → IsScalar (b ∷ text) ↔ (text ≡ letters_text left)
+literal_begins b text left q none begins = (
+  λ scalar. begins.0 (only_literal b text q none scalar),
+  λ e. inl (begins.1 e),
+)
 
-false_begins : Leaves → (text : List ℕ) → IsScalar (102 ∷ text) ↔ (text ≡ letters_text Alse)
-false_begins leaves text = (false_on leaves text, λ e. inl (inr (inr (ap (λ x. 102 ∷ x) e))))
-  where
-  false_on : Leaves → (text : List ℕ) → IsScalar (102 ∷ text) → text ≡ letters_text Alse
-  false_on leaves text (inl literal) = false_left text literal
-  false_on leaves text (inr (inl number)) = absurd (leaves.number_none 102 text refl number)
-  false_on leaves text (inr (inr (value, string))) =
-      absurd (leaves.string_none 102 text value (omega arith) string)
+only_quoted : (text : List ℕ) → IsScalar (34 ∷ text) → StringLeft Inside text
+only_quoted text (inl literal) =
+    absurd (literal_none 34 text (omega arith) (omega arith) (omega arith) literal)
+only_quoted text (inr (inl number)) = absurd (number_none 34 text refl number)
+only_quoted text (inr (inr string)) = (string_begins text).0 string
 
-quoted_begins : Leaves → (text : List ℕ) → IsScalar (34 ∷ text) ↔ StringLeft Inside text
-quoted_begins leaves text =
-    (quoted_on leaves text, λ left. inr (inr ((leaves.string_begins text).1 left)))
-  where
-  quoted_on : Leaves → (text : List ℕ) → IsScalar (34 ∷ text) → StringLeft Inside text
-  quoted_on leaves text (inl literal) =
-      absurd (no_literal 34 text (omega arith) (omega arith) (omega arith) literal)
-  quoted_on leaves text (inr (inl number)) = absurd (leaves.number_none 34 text refl number)
-  quoted_on leaves text (inr (inr string)) = (leaves.string_begins text).0 string
+quoted_begins : (text : List ℕ) → IsScalar (34 ∷ text) ↔ StringLeft Inside text
+quoted_begins text = (only_quoted text, λ left. inr (inr ((string_begins text).1 left)))
 
 -- no letter of a literal, and no quote
 abbrev Other : ℕ → Type 0
 Other b = (b ≢ 34) × (b ≢ 110) × (b ≢ 116) × (b ≢ 102)
 
-other_number : Leaves → (b : ℕ) (text : List ℕ) → Other b → IsScalar (b ∷ text) → IsNumber (b ∷ text)
-other_number leaves b text (q, n, t, f) (inl literal) = absurd (no_literal b text n t f literal)
-other_number leaves b text (q, n, t, f) (inr (inl number)) = number
-other_number leaves b text (q, n, t, f) (inr (inr (value, string))) =
-    absurd (leaves.string_none b text value q string)
+other_number : (b : ℕ) (text : List ℕ) → Other b → IsScalar (b ∷ text) → IsNumber (b ∷ text)
+other_number b text (q, n, t, f) (inl literal) = absurd (literal_none b text n t f literal)
+other_number b text (q, n, t, f) (inr (inl number)) = number
+other_number b text (q, n, t, f) (inr (inr (value, string))) =
+    absurd (string_none b text value q string)
 
 -- what a first byte says of a value without brackets
 abbrev Begun : Option Token → ℕ → List ℕ → Type 0
 Begun None b text = ¬ IsScalar (b ∷ text)
 Begun (Some token) b text = IsScalar (b ∷ text) ↔ TokenLeft token text
 
-by_number : Leaves → (b : ℕ) (text : List ℕ) → Other b → (first : Option NumberMode) → number_first b ≡ first
+by_number : (b : ℕ) (text : List ℕ) → Other b → (first : Option NumberMode) → number_first b ≡ first
     → Begun (option_map token.Number first) b text
-by_number leaves b text other None e =
-    λ scalar. leaves.number_none b text e (other_number leaves b text other scalar)
-by_number leaves b text other (Some next) e = (
-  λ scalar. (leaves.number_begins next b text e).0 (other_number leaves b text other scalar),
-  λ left. inr (inl ((leaves.number_begins next b text e).1 left)),
+by_number b text other None e =
+    λ scalar. number_none b text e (other_number b text other scalar)
+by_number b text other (Some next) e = (
+  λ scalar. (number_begins next b text e).0 (other_number b text other scalar),
+  λ left. inr (inl ((number_begins next b text e).1 left)),
 )
 
 other_first : (b : ℕ) → Other b → option_map token.Number (number_first b) ≡ token_first b
 other_first b (q, n, t, f) = rw (ne_eqb b 34 q, ne_eqb b 110 n, ne_eqb b 116 t, ne_eqb b 102 f) refl
 
 -- a value without brackets begins as its first byte says
-begun_at : Leaves → (b : ℕ) (text : List ℕ) → Begun (token_first b) b text
-begun_at leaves b text =
+begun_at : (b : ℕ) (text : List ℕ) → Begun (token_first b) b text
+begun_at b text =
     elim (cases_eq b 34) [
-      | inl e ↦ subst (λ x. Begun (token_first x) x text) (sym e) (quoted_begins leaves text)
+      | inl e ↦ subst (λ x. Begun (token_first x) x text) (sym e) (quoted_begins text)
       | inr q ↦ elim (cases_eq b 110) [
-        | inl e ↦ subst (λ x. Begun (token_first x) x text) (sym e) (null_begins leaves text)
+        | inl e ↦ subst (λ x. Begun (token_first x) x text) (sym e)
+          (literal_begins 110 text Ull (omega arith) refl (literal_null 110 text refl))
         | inr n ↦ elim (cases_eq b 116) [
-          | inl e ↦ subst (λ x. Begun (token_first x) x text) (sym e) (true_begins leaves text)
+          | inl e ↦ subst (λ x. Begun (token_first x) x text) (sym e)
+            (literal_begins 116 text Rue (omega arith) refl (literal_true 116 text refl))
           | inr t ↦ elim (cases_eq b 102) [
-            | inl e ↦ subst (λ x. Begun (token_first x) x text) (sym e) (false_begins leaves text)
+            | inl e ↦ subst (λ x. Begun (token_first x) x text) (sym e)
+              (literal_begins 102 text Alse (omega arith) refl (literal_false 102 text refl))
             | inr f ↦ subst (λ o. Begun o b text) (other_first b (q, n, t, f))
-              (by_number leaves b text (q, n, t, f) (number_first b) refl)
+              (by_number b text (q, n, t, f) (number_first b) refl)
           ]
         ]
       ]
     ]
 
--- no bracket begins a value without brackets
-no_scalar : Leaves → (b : ℕ) (text : List ℕ) → token_first b ≡ None → ¬ IsScalar (b ∷ text)
-no_scalar leaves b text none = subst (λ o. Begun o b text) none (begun_at leaves b text)
+-- a byte that leads nowhere begins none
+no_scalar : (b : ℕ) (text : List ℕ) → token_first b ≡ None → ¬ IsScalar (b ∷ text)
+no_scalar b text none = subst (λ o. Begun o b text) none (begun_at b text)
 
 -- ---- values
 
@@ -168,65 +112,60 @@ scalar_value zero text scalar = scalar
 scalar_value (suc levels) text scalar = inl scalar
 
 -- a value that begins with no bracket goes on as its first byte says
-pub value_begins : Leaves → (levels b : ℕ) (token : Token) (text : List ℕ) → b ≢ 91 → b ≢ 123
+pub value_begins : (levels b : ℕ) (token : Token) (text : List ℕ) → b ≢ 91 → b ≢ 123
     → token_first b ≡ Some token → IsValue levels (b ∷ text) ↔ TokenLeft token text
-value_begins leaves levels b token text square brace first =
+value_begins levels b token text square brace first =
     let begun : IsScalar (b ∷ text) ↔ TokenLeft token text
-    = subst (λ o. Begun o b text) first (begun_at leaves b text) in (
+    = subst (λ o. Begun o b text) first (begun_at b text) in (
       λ value. begun.0 (value_scalar levels b text square brace value),
       λ left. scalar_value levels (b ∷ text) (begun.1 left),
     )
 
 -- no value begins with any other byte
-pub value_none : Leaves → (levels b : ℕ) (text : List ℕ) → b ≢ 91 → b ≢ 123 → token_first b ≡ None
+pub value_none : (levels b : ℕ) (text : List ℕ) → b ≢ 91 → b ≢ 123 → token_first b ≡ None
     → ¬ IsValue levels (b ∷ text)
-value_none leaves levels b text square brace none value =
-    no_scalar leaves b text none (value_scalar levels b text square brace value)
+value_none levels b text square brace none value =
+    no_scalar b text none (value_scalar levels b text square brace value)
 
 -- no brackets on level 0
-pub value_flat_array : Leaves → (text : List ℕ) → ¬ IsValue zero (91 ∷ text)
-value_flat_array leaves text = no_scalar leaves 91 text refl
+pub value_flat : (text : List ℕ) → (¬ IsValue zero (91 ∷ text)) × (¬ IsValue zero (123 ∷ text))
+value_flat text = (no_scalar 91 text refl, no_scalar 123 text refl)
 
-pub value_flat_object : Leaves → (text : List ℕ) → ¬ IsValue zero (123 ∷ text)
-value_flat_object leaves text = no_scalar leaves 123 text refl
-
-array_only : Leaves → (levels : ℕ) (text : List ℕ) → IsValue (suc levels) (91 ∷ text)
+array_only : (levels : ℕ) (text : List ℕ) → IsValue (suc levels) (91 ∷ text)
     → (elements : List Span) × IsArray (IsValue levels) 0 (91 ∷ text) elements
-array_only leaves levels text (inl scalar) = absurd (no_scalar leaves 91 text refl scalar)
-array_only leaves levels text (inr (inl array)) = array
-array_only leaves levels text (inr (inr (members, (inner, items, whole)))) =
+array_only levels text (inl scalar) = absurd (no_scalar 91 text refl scalar)
+array_only levels text (inr (inl array)) = array
+array_only levels text (inr (inr (members, (inner, items, whole)))) =
     absurd (omega (arith, head_of whole))
 
-object_only : Leaves → (levels : ℕ) (text : List ℕ) → IsValue (suc levels) (123 ∷ text)
+object_only : (levels : ℕ) (text : List ℕ) → IsValue (suc levels) (123 ∷ text)
     → (members : List Member) × IsObject (IsValue levels) 0 (123 ∷ text) members
-object_only leaves levels text (inl scalar) = absurd (no_scalar leaves 123 text refl scalar)
-object_only leaves levels text (inr (inl (elements, (inner, items, whole)))) =
+object_only levels text (inl scalar) = absurd (no_scalar 123 text refl scalar)
+object_only levels text (inr (inl (elements, (inner, items, whole)))) =
     absurd (omega (arith, head_of whole))
-object_only leaves levels text (inr (inr object)) = object
+object_only levels text (inr (inr object)) = object
 
 -- a value that begins with a bracket is an array
-pub value_array : Leaves → (levels : ℕ) (text : List ℕ) → IsValue (suc levels) (91 ∷ text)
+pub value_array : (levels : ℕ) (text : List ℕ) → IsValue (suc levels) (91 ∷ text)
     ↔ ((elements : List Span) × IsArray (IsValue levels) 0 (91 ∷ text) elements)
-value_array leaves levels text = (array_only leaves levels text, λ array. inr (inl array))
+value_array levels text = (array_only levels text, λ array. inr (inl array))
 
 -- and one that begins with a brace is an object
-pub value_object : Leaves → (levels : ℕ) (text : List ℕ) → IsValue (suc levels) (123 ∷ text)
+pub value_object : (levels : ℕ) (text : List ℕ) → IsValue (suc levels) (123 ∷ text)
     ↔ ((members : List Member) × IsObject (IsValue levels) 0 (123 ∷ text) members)
-value_object leaves levels text = (object_only leaves levels text, λ object. inr (inr object))
+value_object levels text = (object_only levels text, λ object. inr (inr object))
 
-empty_scalar : Leaves → ¬ IsScalar []
-empty_scalar leaves (inl (inl e)) = no_cons e
-empty_scalar leaves (inl (inr (inl e))) = no_cons e
-empty_scalar leaves (inl (inr (inr e))) = no_cons e
-empty_scalar leaves (inr (inl number)) = leaves.number_empty number
-empty_scalar leaves (inr (inr (value, string))) = leaves.string_empty value string
+empty_scalar : ¬ IsScalar []
+empty_scalar (inl literal) = literal_empty literal
+empty_scalar (inr (inl number)) = number_empty number
+empty_scalar (inr (inr (value, string))) = string_empty value string
 
 -- nothing is no value
-pub value_empty : Leaves → (levels : ℕ) → ¬ IsValue levels []
-value_empty leaves zero scalar = empty_scalar leaves scalar
-value_empty leaves (suc levels) (inl scalar) = empty_scalar leaves scalar
-value_empty leaves (suc levels) (inr (inl (elements, (inner, items, whole)))) = no_cons whole
-value_empty leaves (suc levels) (inr (inr (members, (inner, items, whole)))) = no_cons whole
+pub value_empty : (levels : ℕ) → ¬ IsValue levels []
+value_empty zero scalar = empty_scalar scalar
+value_empty (suc levels) (inl scalar) = empty_scalar scalar
+value_empty (suc levels) (inr (inl (elements, (inner, items, whole)))) = no_cons whole
+value_empty (suc levels) (inr (inr (members, (inner, items, whole)))) = no_cons whole
 
 space_cases : (b : ℕ) → is_space b ≡ true → (b ≡ 32) ⊎ ((b ≡ 9) ⊎ ((b ≡ 10) ⊎ (b ≡ 13)))
 space_cases b e =
@@ -252,7 +191,7 @@ space_first b e =
     ]
 
 -- no value begins with white space
-pub value_space : Leaves → (levels b : ℕ) (text : List ℕ) → is_space b ≡ true → ¬ IsValue levels (b ∷ text)
-value_space leaves levels b text space =
+pub value_space : (levels b : ℕ) (text : List ℕ) → is_space b ≡ true → ¬ IsValue levels (b ∷ text)
+value_space levels b text space =
     let (none, square, brace) = space_first b space in
-    value_none leaves levels b text square brace none
+    value_none levels b text square brace none
