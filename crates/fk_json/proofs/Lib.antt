@@ -6,6 +6,8 @@ pub mod Utf8Strings
 pub mod Characters
 pub mod StringLeft
 pub mod Strings
+pub mod Values
+pub mod Levels
 pub mod Spaces
 pub mod NumberLeft
 pub mod Fronts
