@@ -12,3 +12,4 @@ pub mod Spaces
 pub mod NumberLeft
 pub mod Fronts
 pub mod TokenLeft
+pub mod Steps

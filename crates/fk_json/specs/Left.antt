@@ -166,3 +166,10 @@ ModeLeft Object F IsInner IsName pending Value at text found =
       to = to;
     })
     at text found
+
+-- an array has no names
+abbrev pub Fits : Bracket → Mode → Type 0
+Fits Array (Naming mode) = ⊥
+Fits Array Colon = ⊥
+Fits Array Value = ⊥
+Fits bracket mode = Unit {0}
