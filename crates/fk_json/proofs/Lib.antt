@@ -13,3 +13,5 @@ pub mod NumberLeft
 pub mod Fronts
 pub mod TokenLeft
 pub mod Steps
+pub mod Items
+pub mod Opened
