@@ -1,5 +1,5 @@
 -- What a byte does between brackets (RFC 8259, sections 2, 4 and 5).
-use Rattle.std.specs.Prelude.{◌==◌, ℕ, Bool, if◌then◌else◌, Option, None, Some}
+use Rattle.std.specs.Prelude.{◌==◌, ℕ, Bool, if◌then◌else◌, List, [], ◌∷◌, Option, None, Some}
 use Rattle.fk_json.specs.Json.{is_space}
 use Rattle.fk_json.specs.Tokens.{string_ends, string_step, token_ends, token_first, token_step}
 use Rattle.fk_json.specs.declared.string_mode.StringMode.{StringMode}
@@ -73,3 +73,14 @@ abbrev pub move_of : Bracket → Mode → ℕ → Move
 move_of bracket (Naming name) b = name_goes name b
 move_of bracket (Within token) b = value_goes token b
 move_of bracket mode b = if is_space b then To mode else core_move bracket mode b
+
+-- ---- brackets in brackets
+
+-- the innermost of the brackets that are open, the outermost and those in it, innermost first
+abbrev pub innermost : Bracket → List Bracket → Bracket
+innermost outer [] = outer
+innermost outer (bracket ∷ inner) = bracket
+
+-- how many brackets may be open inside of the outermost
+abbrev pub most_inner : ℕ
+most_inner = 126
