@@ -15,3 +15,5 @@ pub mod TokenLeft
 pub mod Steps
 pub mod Items
 pub mod Opened
+pub mod Leads
+pub mod Bits

@@ -5,6 +5,8 @@ pub mod Number
 pub mod Tokens
 pub mod Json
 pub mod Moves
+pub mod Brackets
 pub mod Left
+pub mod Standing
 pub mod Pairs
 pub mod Pieces

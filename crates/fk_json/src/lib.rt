@@ -2,6 +2,7 @@
 //! stands in for JSON where a job is read.
 #![tactic(auto)]
 
+mod brackets;
 mod fault;
 mod member;
 mod mode;
@@ -11,6 +12,7 @@ mod pairs;
 mod piece;
 mod plain;
 mod span;
+mod standing;
 mod string;
 mod string_mode;
 #[cfg(test)]

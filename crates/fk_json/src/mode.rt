@@ -1,7 +1,7 @@
 // What a byte does between brackets (RFC 8259, sections 2, 4 and 5).
 ghost use Rattle.std.specs.Prelude.{◌≡◌};
 ghost use Rattle.fk_json.specs.Json.{is_space};
-ghost use Rattle.fk_json.specs.Moves.{behind_item, closing, item_at, move_of, name_goes, value_at, value_goes};
+ghost use Rattle.fk_json.specs.Moves.{behind_item, closing, item_at, move_of, name_goes, opening, value_at, value_goes};
 
 use crate::string_mode::{StringMode, string_ends, string_step};
 use crate::token::{Token, token_ends, token_first, token_step};
@@ -75,6 +75,16 @@ pub(crate) fn is_space(byte: u8) -> bool
     ensures { result ≡ is_space byte }
 {
     byte == b' ' || byte == b'\t' || byte == b'\n' || byte == b'\r'
+}
+
+/// The byte that opens brackets.
+pub(crate) fn opening(bracket: Bracket) -> u8
+    ensures { result ≡ opening bracket }
+{
+    match bracket {
+        Bracket::Array => b'[',
+        Bracket::Object => b'{',
+    }
 }
 
 fn closing(bracket: Bracket) -> u8
