@@ -15,3 +15,4 @@ pub mod TokenLeft
 pub mod Steps
 pub mod Items
 pub mod Opened
+pub mod Bits

@@ -2,6 +2,7 @@
 //! stands in for JSON where a job is read.
 #![tactic(auto)]
 
+mod brackets;
 mod fault;
 mod member;
 mod mode;
