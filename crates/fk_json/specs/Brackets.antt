@@ -47,7 +47,7 @@ pub brackets_length : (depth bits : ℕ) → length (brackets_of depth bits) ≡
 brackets_length zero bits = refl
 brackets_length (suc depth) bits = omega (arith, brackets_length depth (bits / 2))
 
-pub half_below : (depth bits : ℕ) → bits < 2 ^ suc depth → bits / 2 < 2 ^ depth
+half_below : (depth bits : ℕ) → bits < 2 ^ suc depth → bits / 2 < 2 ^ depth
 half_below depth bits small = div_below bits 2 (2 ^ depth) (omega arith) (subst (λ n. bits < n) (pow-suc 2 depth) small)
 
 pub bits_back : (depth bits : ℕ) → bits < 2 ^ depth → bits_of (brackets_of depth bits) ≡ bits
