@@ -17,3 +17,4 @@ pub mod Items
 pub mod Opened
 pub mod Leads
 pub mod Bits
+pub mod Tame

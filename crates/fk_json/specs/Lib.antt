@@ -4,7 +4,6 @@ pub mod String
 pub mod Number
 pub mod Tokens
 pub mod Json
-pub mod Brackets
 pub mod Moves
 pub mod Brackets
 pub mod Left
