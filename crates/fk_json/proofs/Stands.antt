@@ -1,0 +1,458 @@
+-- Where a scan stands behind the bytes that it has read: what is left is what makes the whole a text.
+use Rattle.std.proofs.Common.{◌≡◌, ◌⊎◌, inl, inr, ◌↔◌, ◌==◌, ℕ, zero, suc, ◌+◌, ◌≤◌, ◌<◌, Bool, true, false, List, [], ◌∷◌, ◌++◌, length, take, drop, Option, None, Some, if◌then◌else◌, refl, sym, ap, subst, ◌∙◌, arith}
+use Rattle.std.specs.Prelude.{nat_le}
+use Rattle.std.proofs.Math.Seq.{drop-append_seam, take-append_seam}
+use Rattle.std.proofs.lemmas.Bool.{eqb-false, eqb-true, leb-true, leb-false}
+use Rattle.std.proofs.lemmas.List.{append_assoc, append-nil, drop-append-le, length-append, take-append-le}
+use Rattle.fk_json.specs.Json.{IsSpace, IsValue, is_space}
+use Rattle.fk_json.specs.String.{IsString}
+use Rattle.fk_json.specs.Tokens.{StringLeft, string_ends, string_step}
+use Rattle.fk_json.specs.Moves.{innermost, most_inner, move_of, opening}
+use Rattle.fk_json.specs.Left.{ByteThen, FirstLeft, Fits, Item, ModeLeft, Pending, Spaced, ended, outermost}
+use Rattle.fk_json.specs.Standing.{IsTextOf, LevelsLeft, NameRest, RegionLeft, StandingLeft, before, behind, begun_at, between_by, closed, closed_in, ended_at, first_standing, found_in, frame_in, goes, moved, named_at, names_at, no_item, opened, pending_in, pending_of, placed, read, read_in, to_mode}
+use Rattle.fk_json.specs.declared.mode.Bracket.{Bracket}
+use Rattle.fk_json.specs.declared.mode.Bracket.TheVariants.{Array, Object}
+use Rattle.fk_json.specs.declared.mode.Mode.{Mode}
+use Rattle.fk_json.specs.declared.mode.Mode.TheVariants.{First, Next, Naming, Colon, Value, Within, After}
+use Rattle.fk_json.specs.declared.mode.Move.{Move}
+use Rattle.fk_json.specs.declared.mode.Move.TheVariants.{To, Names, Begins, Opens, Closes, Named, Ended, Stops}
+use Rattle.fk_json.specs.declared.standing.Found.{Found}
+use Rattle.fk_json.specs.declared.standing.Places.{Places}
+use Rattle.fk_json.specs.declared.standing.Region.{Region}
+use Rattle.fk_json.specs.declared.standing.Region.TheVariants.{Before, Between, Behind}
+use Rattle.fk_json.specs.declared.standing.Standing.{Standing}
+use Rattle.fk_json.specs.declared.standing.Step.{Step}
+use Rattle.fk_json.specs.declared.standing.Step.TheVariants as step
+use Rattle.fk_json.specs.declared.string_mode.StringMode.{StringMode}
+use Rattle.fk_json.specs.declared.string_mode.StringMode.TheVariants.{Inside}
+use Rattle.fk_json.specs.declared.token.Token.{Token}
+use Rattle.fk_json.specs.declared.token.Token.TheVariants.{Bracketed}
+use Rattle.fk_json.proofs.Leads.{BetweenLeft, MovedLeft, NameLeads, begins_left, between_ends, between_moves, closes_inner, names_left, opens_left, opens_none, pending_at, to_left}
+use Rattle.fk_json.proofs.Steps.{IsNamed, back, neither, same, through}
+use Rattle.fk_json.proofs.StringLeft.{string_begins, string_goes, string_may_end}
+use Rattle.fk_json.proofs.Strings.{one_value}
+use Rattle.fk_json.proofs.Tame.{EndsName, IsAnObject, IsPast, IsTame, IsWithin, LedName, PastBy, tame}
+
+-- ---- what is known where a scan stands
+
+abbrev pub FitsIn : Bracket → List Bracket → Region → Type 0
+FitsIn outer inner (Between mode) = Fits (innermost outer inner) mode
+FitsIn outer inner Before = inner ≡ []
+FitsIn outer inner Behind = inner ≡ []
+
+-- the name that is being read began with these bytes
+abbrev pub NamedIn : List ℕ → List Bracket → Region → Type 0
+NamedIn front inner (Between mode) = IsNamed mode (NameRest front inner mode)
+NamedIn front inner region = Unit {0}
+
+-- the bytes of the name at these places
+abbrev pub name_text : List ℕ → Places → List ℕ
+name_text text places = drop places.name_from (take places.name_to text)
+
+-- the name was read, and this is its value
+pub record IsKnown (text : List ℕ) (places : Places) (name : List ℕ) : Type 0 where
+  pub ordered : places.name_from ≤ places.name_to
+  pub within : places.name_to ≤ length text
+  pub spelled : IsString (name_text text places) name
+
+-- it is known where a member's value is read
+abbrev pub KnownBetween : Bracket → List Bracket → Mode → Type 0 → Type 0
+KnownBetween Array inner mode X = Unit {0}
+KnownBetween Object [] mode X = IsPast mode → X
+KnownBetween Object (bracket ∷ inner) mode X = X
+
+abbrev pub KnownRegion : Bracket → List Bracket → Region → Type 0 → Type 0
+KnownRegion outer inner (Between mode) X = KnownBetween outer inner mode X
+KnownRegion outer inner region X = Unit {0}
+
+abbrev pub KnownIn : Bracket → List ℕ → List ℕ → Standing → Type 0
+KnownIn outer text name standing =
+    KnownRegion outer standing.inner standing.region (IsKnown text standing.places name)
+
+-- the items that are found, and then those that are left
+abbrev pub Finds : {I : Type 0} → List I → (List I → Type 0) → List I → Type 0
+Finds {I} found IsLeft all = (others : List I) × (all ≡ found ++ others) × IsLeft others
+
+-- What was read of a text, the items found in it, and where the scan stands: what is left is what
+-- makes the whole a text, at each number of levels that is high enough.
+pub record Stands
+    (outer : Bracket) (done : List ℕ) (found : List (Item outer)) (standing : Standing) : Type 0 where
+  pub name : List ℕ
+  pub open_few : length standing.inner ≤ most_inner
+  pub name_within : standing.places.name_from ≤ length done
+  pub fits : FitsIn outer standing.inner standing.region
+  pub named : NamedIn (drop standing.places.name_from done) standing.inner standing.region
+  pub known : KnownIn outer done name standing
+  pub left : (most : ℕ) (rest : List ℕ) (all : List (Item outer)) → most_inner ≤ most
+      → (IsTextOf outer (suc most) (done ++ rest) all)
+      ↔ (Finds found (λ others. LevelsLeft outer most (drop standing.places.name_from done) name standing
+      (length done) rest others) all)
+
+-- a member's name is that of its places
+abbrev pub NameOf : Bracket → List ℕ → Found → List ℕ → Type 0
+NameOf Array text found name = Unit {0}
+NameOf Object text found name = IsKnown text found.places name
+
+-- what an item that was found adds to the items
+abbrev pub Adds : (outer : Bracket) → List ℕ → Option Found → List (Item outer) → Type 0
+Adds outer text None items = items ≡ []
+Adds outer text (Some found) items =
+    (name : List ℕ) × NameOf outer text found name × (items ≡ ended outer (pending_of name found.places) found.to ∷ [])
+
+
+-- ---- one byte more
+
+-- what is left before a byte, from some place on
+abbrev pub Source : Bracket → Type 1
+Source outer = ℕ → List ℕ → List (Item outer) → Type 0
+
+-- The byte leads on to a standing, where these items are found before it.
+pub record Leads (outer : Bracket) (IsBefore : Source outer) (done : List ℕ) (b : ℕ)
+    (items : List (Item outer)) (next : Standing) : Type 0 where
+  pub name : List ℕ
+  pub open_few : length next.inner ≤ most_inner
+  pub name_within : next.places.name_from ≤ length (done ++ b ∷ [])
+  pub fits : FitsIn outer next.inner next.region
+  pub named : NamedIn (drop next.places.name_from (done ++ b ∷ [])) next.inner next.region
+  pub known : KnownIn outer (done ++ b ∷ []) name next
+  pub leads : (most : ℕ) (rest : List ℕ) (others : List (Item outer)) → most_inner ≤ most
+      → (IsBefore most rest others) ↔ (Finds items (λ last. LevelsLeft outer most
+      (drop next.places.name_from (done ++ b ∷ [])) name next (length done + 1) rest last) others)
+
+-- what a step says
+abbrev pub Outcome : (outer : Bracket) → Source outer → List ℕ → List Bracket → ℕ → Step → Type 0
+Outcome outer IsBefore done inner b (step.Goes next item) =
+    ((items : List (Item outer)) × Adds outer done item items)
+    × ((items : List (Item outer)) → Adds outer done item items → Leads outer IsBefore done b items next)
+Outcome outer IsBefore done inner b step.TooDeep =
+    ((rest : List ℕ) (others : List (Item outer)) → ¬ IsBefore most_inner rest others)
+    × (grown : List ℕ) × (pending : Pending) × (c : Bracket)
+    × ((rest : List ℕ) (last : List (Item outer))
+    → BetweenLeft outer (suc most_inner) grown pending (c ∷ inner) First (length done + 1) rest last
+    → (others : List (Item outer)) × IsBefore (suc most_inner) rest others)
+    × (length inner ≡ most_inner)
+Outcome outer IsBefore done inner b step.Stops =
+    (most : ℕ) (rest : List ℕ) (others : List (Item outer)) → most_inner ≤ most → ¬ IsBefore most rest others
+
+finds_same : {I : Type 0} (items : List I) (P Q : List I → Type 0) (others : List I)
+    → ((last : List I) → (P last) ↔ (Q last)) → (Finds items P others) ↔ (Finds items Q others)
+finds_same items P Q others f = (λ h. (h.0, h.1, (f h.0).0 h.2), λ h. (h.0, h.1, (f h.0).1 h.2))
+
+-- ---- what is known goes on
+
+known_text : (done : List ℕ) (b : ℕ) (places : Places) → places.name_to ≤ length done
+    → name_text (done ++ b ∷ []) places ≡ name_text done places
+known_text done b places within =
+    ap (λ x. drop places.name_from x) (take-append-le places.name_to done (b ∷ []) within)
+
+one_longer : (done : List ℕ) (b n : ℕ) → n ≤ length done → n ≤ length (done ++ b ∷ [])
+one_longer done b n l = omega (arith, l, length-append done (b ∷ []))
+
+known_on : (done : List ℕ) (b : ℕ) (places : Places) (name : List ℕ) → IsKnown done places name
+    → IsKnown (done ++ b ∷ []) places name
+known_on done b places name known = record {
+  ordered = known.ordered;
+  within = one_longer done b places.name_to known.within;
+  spelled = subst (λ x. IsString x name) (sym (known_text done b places known.within)) known.spelled;
+}
+
+-- the place of the value has no part in it
+known_from : (text : List ℕ) (places : Places) (from : ℕ) (name : List ℕ) → IsKnown text places name
+    → IsKnown text (record places { from = from }) name
+known_from text places from name known =
+    record { ordered = known.ordered; within = known.within; spelled = known.spelled }
+
+known_between : (outer : Bracket) (inner : List Bracket) (mode to : Mode) (X Y : Type 0) → (X → Y)
+    → (IsPast to → IsPast mode) → KnownBetween outer inner mode X → KnownBetween outer inner to Y
+known_between Array inner mode to X Y f past known = tt
+known_between Object [] mode to X Y f past known = λ p. f (known (past p))
+known_between Object (c ∷ inner) mode to X Y f past known = f known
+
+-- ---- to another mode
+
+tame_fits : (bracket : Bracket) (mode : Mode) (b : ℕ) (to : Mode) → IsTame bracket mode b (To to)
+    → Fits bracket to
+tame_fits Array mode b First t = t.0
+tame_fits Array mode b Next t = t.0
+tame_fits Array mode b (Naming next) t = absurd t.1
+tame_fits Array mode b Colon t = t.0
+tame_fits Array mode b Value t = t.0
+tame_fits Array mode b (Within token) t = t.0
+tame_fits Array mode b After t = t.0
+tame_fits Object mode b First t = tt
+tame_fits Object mode b Next t = tt
+tame_fits Object mode b (Naming next) t = tt
+tame_fits Object mode b Colon t = tt
+tame_fits Object mode b Value t = tt
+tame_fits Object mode b (Within token) t = tt
+tame_fits Object mode b After t = tt
+
+tame_past : (bracket : Bracket) (mode : Mode) (b : ℕ) (to : Mode) → IsTame bracket mode b (To to)
+    → IsPast to → IsPast mode
+tame_past bracket mode b First t p = absurd p
+tame_past bracket mode b Next t p = absurd p
+tame_past bracket mode b (Naming next) t p = absurd p
+tame_past bracket mode b Colon t p = t.1 p
+tame_past bracket mode b Value t p = t.1 p
+tame_past bracket mode b (Within token) t p = t.1 p
+tame_past bracket mode b After t p = absurd p
+
+named_grows : (front : List ℕ) (inner : List Bracket) (b : ℕ) (mode : Mode) (next : StringMode)
+    → LedName mode b (Some next) → IsNamed mode (NameRest front inner mode)
+    → IsNamed (Naming next) (NameRest (front ++ b ∷ []) inner (Naming next))
+named_grows front [] b First next led named = absurd led
+named_grows front [] b Next next led named = absurd led
+named_grows front [] b Colon next led named = absurd led
+named_grows front [] b Value next led named = absurd led
+named_grows front [] b (Within token) next led named = absurd led
+named_grows front [] b After next led named = absurd led
+named_grows front [] b (Naming mode) next led named = λ rest.
+    let e = append_assoc front (b ∷ []) rest in
+    through (λ h. (h.0, subst (λ x. IsString x h.0) e h.1), λ h. (h.0, subst (λ x. IsString x h.0) (sym e) h.1))
+    (through (named (b ∷ rest)) (string_goes mode next b rest led))
+named_grows front (c ∷ inner) b mode next led named = λ rest. (λ h. h.1, λ l. ([], l))
+
+tame_named : (bracket : Bracket) (front : List ℕ) (inner : List Bracket) (b : ℕ) (mode to : Mode)
+    → IsTame bracket mode b (To to) → IsNamed mode (NameRest front inner mode)
+    → IsNamed to (NameRest (front ++ b ∷ []) inner to)
+tame_named bracket front inner b mode First t named = tt
+tame_named bracket front inner b mode Next t named = tt
+tame_named bracket front inner b mode (Naming next) t named = named_grows front inner b mode next t.0 named
+tame_named bracket front inner b mode Colon t named = tt
+tame_named bracket front inner b mode Value t named = tt
+tame_named bracket front inner b mode (Within token) t named = tt
+tame_named bracket front inner b mode After t named = tt
+
+abbrev naming_or : StringMode → Mode → StringMode
+naming_or other (Naming mode) = mode
+naming_or other mode = other
+
+naming_same : {one other : StringMode} → Naming one ≡ Naming other → one ≡ other
+naming_same {one} {other} e = ap (naming_or one) e
+
+naming_first : (mode : Mode) (b : ℕ) (next : StringMode) → LedName mode b (Some next)
+    → (now : StringMode) × (mode ≡ Naming now) × (string_step now b ≡ Some next)
+naming_first First b next led = absurd led
+naming_first Next b next led = absurd led
+naming_first (Naming now) b next led = (now, refl, led)
+naming_first Colon b next led = absurd led
+naming_first Value b next led = absurd led
+naming_first (Within token) b next led = absurd led
+naming_first After b next led = absurd led
+
+abbrev IsNaming : Mode → Type 0
+IsNaming (Naming mode) = Unit {0}
+IsNaming mode = ⊥
+
+tame_leads : (bracket : Bracket) (mode : Mode) (b : ℕ) (to : Mode) → IsTame bracket mode b (To to)
+    → NameLeads mode b to
+tame_leads bracket mode b First t next e = absurd (subst IsNaming (sym e) tt)
+tame_leads bracket mode b Next t next e = absurd (subst IsNaming (sym e) tt)
+tame_leads bracket mode b (Naming one) t next e =
+    naming_first mode b next (subst (λ x. LedName mode b (Some x)) (naming_same e) t.0)
+tame_leads bracket mode b Colon t next e = absurd (subst IsNaming (sym e) tt)
+tame_leads bracket mode b Value t next e = absurd (subst IsNaming (sym e) tt)
+tame_leads bracket mode b (Within token) t next e = absurd (subst IsNaming (sym e) tt)
+tame_leads bracket mode b After t next e = absurd (subst IsNaming (sym e) tt)
+
+-- ---- where each move leads
+
+-- a stage of a step: what is left before the byte is what its move leaves
+pub record Stage (outer : Bracket) (IsBefore : Source outer) (done : List ℕ) (inner : List Bracket)
+    (places : Places) (mode : Mode) (b : ℕ) (item : Option Found) (move : Move) : Type 0 where
+  pub name : List ℕ
+  pub open_few : length inner ≤ most_inner
+  pub name_within : places.name_from ≤ length done
+  pub named : IsNamed mode (NameRest (drop places.name_from done) inner mode)
+  pub known : KnownBetween outer inner mode (IsKnown done places name)
+  pub tame : IsTame (innermost outer inner) mode b move
+  pub has : (items : List (Item outer)) × Adds outer done item items
+  pub left : (items : List (Item outer)) → Adds outer done item items
+      → (most : ℕ) (rest : List ℕ) (others : List (Item outer)) → most_inner ≤ most
+      → (IsBefore most rest others)
+      ↔ (Finds items (λ last. MovedLeft outer most (drop places.name_from done) (pending_of name places) inner
+      mode (length done) b rest last move) others)
+
+grown_front : (done : List ℕ) (b from : ℕ) → from ≤ length done
+    → drop from done ++ b ∷ [] ≡ drop from (done ++ b ∷ [])
+grown_front done b from within = sym (drop-append-le from done (b ∷ []) within)
+
+leads_to : (outer : Bracket) (IsBefore : Source outer) (done : List ℕ) (inner : List Bracket)
+    (places : Places) (region : Region) (mode to : Mode) (b : ℕ) (item : Option Found)
+    → Stage outer IsBefore done inner places mode b item (To to)
+    → Outcome outer IsBefore done inner b
+    (step.Goes (record { region = Between to; inner = inner; places = places }) item)
+leads_to outer IsBefore done inner places region mode to b item s =
+    let front = grown_front done b places.name_from s.name_within in
+    let bracket = innermost outer inner in
+    (s.has, λ items adds. record {
+      name = s.name;
+      open_few = s.open_few;
+      name_within = one_longer done b places.name_from s.name_within;
+      fits = tame_fits bracket mode b to s.tame;
+      named = subst (λ x. IsNamed to (NameRest x inner to)) front
+      (tame_named bracket (drop places.name_from done) inner b mode to s.tame s.named);
+      known = known_between outer inner mode to (IsKnown done places s.name)
+      (IsKnown (done ++ b ∷ []) places s.name) (known_on done b places s.name)
+      (tame_past bracket mode b to s.tame) s.known;
+      leads = λ most rest others enough.
+          through (s.left items adds most rest others enough)
+          (finds_same items
+          (λ last. MovedLeft outer most (drop places.name_from done) (pending_of s.name places) inner mode
+          (length done) b rest last (To to))
+          (λ last. BetweenLeft outer most (drop places.name_from (done ++ b ∷ [])) (pending_of s.name places) inner
+          to (length done + 1) rest last) others
+          (λ last. subst (λ x. (MovedLeft outer most (drop places.name_from done) (pending_of s.name places) inner
+          mode (length done) b rest last (To to))
+          ↔ (BetweenLeft outer most x (pending_of s.name places) inner to (length done + 1) rest last)) front
+          (to_left outer most (drop places.name_from done) (pending_of s.name places) inner mode to (length done) b rest last
+          (tame_leads bracket mode b to s.tame))));
+    })
+
+-- the scan stands so, between the outermost brackets
+abbrev pub between_at : List Bracket → Places → Mode → Standing
+between_at inner places mode = record { region = Between mode; inner = inner; places = places }
+
+is_object : (bracket : Bracket) → IsAnObject bracket → bracket ≡ Object
+is_object Array is = absurd is
+is_object Object is = refl
+
+fits_name : (bracket : Bracket) (mode : StringMode) → IsAnObject bracket → Fits bracket (Naming mode)
+fits_name Array mode is = absurd is
+fits_name Object mode is = tt
+
+fits_within : (bracket : Bracket) (token : Token) → Fits bracket (Within token)
+fits_within Array token = tt
+fits_within Object token = tt
+
+fits_first : (bracket : Bracket) → Fits bracket First
+fits_first Array = tt
+fits_first Object = tt
+
+last_byte : (done : List ℕ) (b : ℕ) → drop (length done) (done ++ b ∷ []) ≡ b ∷ []
+last_byte done b = drop-append_seam done (b ∷ [])
+
+-- a name that is being read isn't known
+known_none : (outer : Bracket) (next : StringMode) (X : Type 0) → KnownBetween outer [] (Naming next) X
+known_none Array next X = tt
+known_none Object next X = λ p. absurd p
+
+known_naming : (outer : Bracket) (inner : List Bracket) (mode : Mode) (next : StringMode) (X Y : Type 0)
+    → (X → Y) → KnownBetween outer inner mode X → KnownBetween outer inner (Naming next) Y
+known_naming outer inner mode next X Y f known =
+    known_between outer inner mode (Naming next) X Y f (λ p. absurd p) known
+
+named_quote : (b : ℕ) → b ≡ 34
+    → (rest : List ℕ) → ((name : List ℕ) × IsString (b ∷ rest) name) ↔ (StringLeft Inside rest)
+named_quote b quote rest = through
+    (λ h. (h.0, subst (λ x. IsString (x ∷ rest) h.0) quote h.1), λ h. (h.0, subst (λ x. IsString (x ∷ rest) h.0) (sym quote) h.1))
+    (string_begins rest)
+
+leads_names : (outer : Bracket) (IsBefore : Source outer) (done : List ℕ) (inner : List Bracket)
+    (places : Places) (mode : Mode) (b : ℕ) (item : Option Found)
+    → Stage outer IsBefore done inner places mode b item Names
+    → Outcome outer IsBefore done inner b
+    (step.Goes (between_at inner (placed inner (record places { name_from = length done }) places) (Naming Inside)) item)
+leads_names outer IsBefore done [] places mode b item s =
+    let e = last_byte done b in
+    let here = record places { name_from = length done } in
+    (s.has, λ items adds. record {
+      name = s.name;
+      open_few = s.open_few;
+      name_within = one_longer done b (length done) (omega arith);
+      fits = fits_name outer Inside s.tame.0;
+      named = subst (λ x. IsNamed (Naming Inside) (NameRest x [] (Naming Inside))) (sym e) (named_quote b s.tame.1);
+      known = known_none outer Inside (IsKnown (done ++ b ∷ []) here s.name);
+      leads = λ most rest others enough.
+          through (s.left items adds most rest others enough)
+          (finds_same items
+          (λ last. MovedLeft outer most (drop places.name_from done) (pending_of s.name places) [] mode
+          (length done) b rest last Names)
+          (λ last. BetweenLeft outer most (drop (length done) (done ++ b ∷ [])) (pending_of s.name here) []
+          (Naming Inside) (length done + 1) rest last) others
+          (λ last. subst (λ x. (MovedLeft outer most (drop places.name_from done) (pending_of s.name places) [] mode
+          (length done) b rest last Names)
+          ↔ (BetweenLeft outer most x (pending_of s.name here) [] (Naming Inside) (length done + 1) rest last)) (sym e)
+          (names_left most outer (drop places.name_from done) s.name places [] mode (length done) b rest last
+          (is_object outer s.tame.0) s.tame.1)));
+    })
+leads_names outer IsBefore done (c ∷ inner) places mode b item s =
+    (s.has, λ items adds. record {
+      name = s.name;
+      open_few = s.open_few;
+      name_within = one_longer done b places.name_from s.name_within;
+      fits = fits_name c Inside s.tame.0;
+      named = λ rest. (λ h. h.1, λ l. ([], l));
+      known = known_naming outer (c ∷ inner) mode Inside (IsKnown done places s.name)
+      (IsKnown (done ++ b ∷ []) places s.name) (known_on done b places s.name) s.known;
+      leads = λ most rest others enough.
+          through (s.left items adds most rest others enough)
+          (finds_same items
+          (λ last. MovedLeft outer most (drop places.name_from done) (pending_of s.name places) (c ∷ inner) mode
+          (length done) b rest last Names)
+          (λ last. BetweenLeft outer most (drop places.name_from (done ++ b ∷ [])) (pending_of s.name places) (c ∷ inner)
+          (Naming Inside) (length done + 1) rest last) others
+          (λ last. names_left most outer (drop places.name_from done) s.name places (c ∷ inner) mode (length done) b rest last
+          (is_object c s.tame.0) s.tame.1));
+    })
+
+known_begun : (outer : Bracket) (mode to : Mode) (X Y : Type 0) → (X → Y) → PastBy outer mode
+    → KnownBetween outer [] mode X → KnownBetween outer [] to Y
+known_begun Array mode to X Y f past known = tt
+known_begun Object mode to X Y f past known = λ p. f (known past)
+
+known_deeper : (outer : Bracket) (mode : Mode) (c : Bracket) (to : Mode) (X Y : Type 0) → (X → Y)
+    → PastBy outer mode → KnownBetween outer [] mode X → KnownBetween outer (c ∷ []) to Y
+known_deeper Array mode c to X Y f past known = tt
+known_deeper Object mode c to X Y f past known = f (known past)
+
+known_inner : (outer : Bracket) (c d : Bracket) (inner more : List Bracket) (mode to : Mode) (X Y : Type 0)
+    → (X → Y) → KnownBetween outer (c ∷ inner) mode X → KnownBetween outer (d ∷ more) to Y
+known_inner Array c d inner more mode to X Y f known = tt
+known_inner Object c d inner more mode to X Y f known = f known
+
+leads_begins : (outer : Bracket) (IsBefore : Source outer) (done : List ℕ) (inner : List Bracket)
+    (places : Places) (mode : Mode) (token : Token) (b : ℕ) (item : Option Found)
+    → Stage outer IsBefore done inner places mode b item (Begins token)
+    → Outcome outer IsBefore done inner b
+    (step.Goes (between_at inner (placed inner (record places { from = length done }) places) (Within token)) item)
+leads_begins outer IsBefore done [] places mode token b item s =
+    let here = record places { from = length done } in
+    (s.has, λ items adds. record {
+      name = s.name;
+      open_few = s.open_few;
+      name_within = one_longer done b places.name_from s.name_within;
+      fits = fits_within outer token;
+      named = tt;
+      known = known_begun outer mode (Within token) (IsKnown done places s.name) (IsKnown (done ++ b ∷ []) here s.name)
+      (λ known. known_from (done ++ b ∷ []) places (length done) s.name (known_on done b places s.name known))
+      s.tame s.known;
+      leads = λ most rest others enough.
+          through (s.left items adds most rest others enough)
+          (finds_same items
+          (λ last. MovedLeft outer most (drop places.name_from done) (pending_of s.name places) [] mode
+          (length done) b rest last (Begins token))
+          (λ last. BetweenLeft outer most (drop places.name_from (done ++ b ∷ [])) (pending_of s.name here) []
+          (Within token) (length done + 1) rest last) others
+          (λ last. begins_left outer most (drop places.name_from done) (drop places.name_from (done ++ b ∷ []))
+          s.name places [] mode token (length done) b rest last));
+    })
+leads_begins outer IsBefore done (c ∷ inner) places mode token b item s =
+    (s.has, λ items adds. record {
+      name = s.name;
+      open_few = s.open_few;
+      name_within = one_longer done b places.name_from s.name_within;
+      fits = fits_within c token;
+      named = tt;
+      known = known_inner outer c c inner inner mode (Within token) (IsKnown done places s.name)
+      (IsKnown (done ++ b ∷ []) places s.name) (known_on done b places s.name) s.known;
+      leads = λ most rest others enough.
+          through (s.left items adds most rest others enough)
+          (finds_same items
+          (λ last. MovedLeft outer most (drop places.name_from done) (pending_of s.name places) (c ∷ inner) mode
+          (length done) b rest last (Begins token))
+          (λ last. BetweenLeft outer most (drop places.name_from (done ++ b ∷ [])) (pending_of s.name places) (c ∷ inner)
+          (Within token) (length done + 1) rest last) others
+          (λ last. begins_left outer most (drop places.name_from done) (drop places.name_from (done ++ b ∷ []))
+          s.name places (c ∷ inner) mode token (length done) b rest last));
+    })
