@@ -18,3 +18,4 @@ pub mod Opened
 pub mod Leads
 pub mod Bits
 pub mod Tame
+pub mod Completes
