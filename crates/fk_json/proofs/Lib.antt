@@ -19,3 +19,4 @@ pub mod Leads
 pub mod Bits
 pub mod Tame
 pub mod Stands
+pub mod Completes
