@@ -456,3 +456,167 @@ leads_begins outer IsBefore done (c ∷ inner) places mode token b item s =
           (λ last. begins_left outer most (drop places.name_from done) (drop places.name_from (done ++ b ∷ []))
           s.name places (c ∷ inner) mode token (length done) b rest last));
     })
+
+-- ---- brackets open and close
+
+-- the places behind the first byte of a value
+abbrev pub begun_places : List Bracket → Places → ℕ → Places
+begun_places inner places at = placed inner (record places { from = at }) places
+
+leads_opens : (outer : Bracket) (IsBefore : Source outer) (done : List ℕ) (inner : List Bracket)
+    (places : Places) (mode : Mode) (c : Bracket) (b : ℕ) (item : Option Found)
+    → length inner < most_inner
+    → Stage outer IsBefore done inner places mode b item (Opens c)
+    → Outcome outer IsBefore done inner b
+    (step.Goes (between_at (c ∷ inner) (begun_places inner places (length done)) First) item)
+leads_opens outer IsBefore done [] places mode c b item room s =
+    let here = record places { from = length done } in
+    (s.has, λ items adds. record {
+      name = s.name;
+      open_few = omega (arith, room);
+      name_within = one_longer done b places.name_from s.name_within;
+      fits = fits_first c;
+      named = tt;
+      known = known_deeper outer mode c First (IsKnown done places s.name) (IsKnown (done ++ b ∷ []) here s.name)
+      (λ known. known_from (done ++ b ∷ []) places (length done) s.name (known_on done b places s.name known))
+      s.tame s.known;
+      leads = λ most rest others enough.
+          through (s.left items adds most rest others enough)
+          (finds_same items
+          (λ last. MovedLeft outer most (drop places.name_from done) (pending_of s.name places) [] mode
+          (length done) b rest last (Opens c))
+          (λ last. BetweenLeft outer most (drop places.name_from (done ++ b ∷ [])) (pending_of s.name here) (c ∷ [])
+          First (length done + 1) rest last) others
+          (λ last. opens_left outer most (drop places.name_from done) (drop places.name_from (done ++ b ∷ []))
+          s.name places [] mode c (length done) b rest last));
+    })
+leads_opens outer IsBefore done (d ∷ inner) places mode c b item room s =
+    (s.has, λ items adds. record {
+      name = s.name;
+      open_few = omega (arith, room);
+      name_within = one_longer done b places.name_from s.name_within;
+      fits = fits_first c;
+      named = tt;
+      known = known_inner outer d c inner (d ∷ inner) mode First (IsKnown done places s.name)
+      (IsKnown (done ++ b ∷ []) places s.name) (known_on done b places s.name) s.known;
+      leads = λ most rest others enough.
+          through (s.left items adds most rest others enough)
+          (finds_same items
+          (λ last. MovedLeft outer most (drop places.name_from done) (pending_of s.name places) (d ∷ inner) mode
+          (length done) b rest last (Opens c))
+          (λ last. BetweenLeft outer most (drop places.name_from (done ++ b ∷ [])) (pending_of s.name places)
+          (c ∷ d ∷ inner) First (length done + 1) rest last) others
+          (λ last. opens_left outer most (drop places.name_from done) (drop places.name_from (done ++ b ∷ []))
+          s.name places (d ∷ inner) mode c (length done) b rest last));
+    })
+
+deepens : (outer : Bracket) (IsBefore : Source outer) (done : List ℕ) (inner : List Bracket)
+    (places : Places) (mode : Mode) (c : Bracket) (b : ℕ) (item : Option Found)
+    → most_inner ≤ length inner
+    → Stage outer IsBefore done inner places mode b item (Opens c)
+    → Outcome outer IsBefore done inner b step.TooDeep
+deepens outer IsBefore done inner places mode c b item full s =
+    let items = s.has.0 in
+    let adds = s.has.1 in (
+      λ rest others before.
+          let h = (s.left items adds most_inner rest others (omega arith)).0 before in
+          opens_none outer most_inner (drop places.name_from done) (pending_of s.name places) inner mode c
+          (length done) b rest h.0 full h.2,
+      drop places.name_from (done ++ b ∷ []),
+      pending_at inner s.name (record places { from = length done }) places,
+      c,
+      λ rest last later.
+          (items ++ last,
+          (s.left items adds (suc most_inner) rest (items ++ last) (omega arith)).1
+          (last, refl, (opens_left outer (suc most_inner) (drop places.name_from done)
+          (drop places.name_from (done ++ b ∷ [])) s.name places inner mode c (length done) b rest last).1 later)),
+      omega (arith, full, s.open_few),
+    )
+
+opened_by : (outer : Bracket) (IsBefore : Source outer) (done : List ℕ) (inner : List Bracket)
+    (places : Places) (mode : Mode) (c : Bracket) (b : ℕ) (item : Option Found) (full : Bool)
+    → nat_le most_inner (length inner) ≡ full
+    → Stage outer IsBefore done inner places mode b item (Opens c)
+    → Outcome outer IsBefore done inner b (if full then step.TooDeep
+    else step.Goes (between_at (c ∷ inner) (begun_places inner places (length done)) First) item)
+opened_by outer IsBefore done inner places mode c b item true is s =
+    deepens outer IsBefore done inner places mode c b item (leb-true most_inner (length inner) is) s
+opened_by outer IsBefore done inner places mode c b item false is s =
+    leads_opens outer IsBefore done inner places mode c b item (leb-false most_inner (length inner) is) s
+
+known_closed : (outer c : Bracket) (inner : List Bracket) (mode to : Mode) (X Y : Type 0) → (X → Y)
+    → KnownBetween outer (c ∷ inner) mode X → KnownBetween outer inner to Y
+known_closed Array c inner mode to X Y f known = tt
+known_closed Object c [] mode to X Y f known = λ p. f known
+known_closed Object c (d ∷ inner) mode to X Y f known = f known
+
+leads_closes : (outer : Bracket) (IsBefore : Source outer) (done : List ℕ) (inner : List Bracket)
+    (places : Places) (mode : Mode) (b : ℕ) (item : Option Found)
+    → Stage outer IsBefore done inner places mode b item Closes
+    → Outcome outer IsBefore done inner b (step.Goes (closed_in inner places) item)
+leads_closes outer IsBefore done [] places mode b item s =
+    (s.has, λ items adds. record {
+      name = s.name;
+      open_few = s.open_few;
+      name_within = one_longer done b places.name_from s.name_within;
+      fits = refl;
+      named = tt;
+      known = tt;
+      leads = λ most rest others enough. s.left items adds most rest others enough;
+    })
+leads_closes outer IsBefore done (c ∷ inner) places mode b item s =
+    (s.has, λ items adds. record {
+      name = s.name;
+      open_few = omega (arith, s.open_few);
+      name_within = one_longer done b places.name_from s.name_within;
+      fits = fits_within (innermost outer inner) Bracketed;
+      named = tt;
+      known = known_closed outer c inner mode (Within Bracketed) (IsKnown done places s.name)
+      (IsKnown (done ++ b ∷ []) places s.name) (known_on done b places s.name) s.known;
+      leads = λ most rest others enough.
+          through (s.left items adds most rest others enough)
+          (finds_same items
+          (λ last. MovedLeft outer most (drop places.name_from done) (pending_of s.name places) (c ∷ inner) mode
+          (length done) b rest last Closes)
+          (λ last. BetweenLeft outer most (drop places.name_from (done ++ b ∷ [])) (pending_of s.name places) inner
+          (Within Bracketed) (length done + 1) rest last) others
+          (λ last. closes_inner outer most (drop places.name_from done) (drop places.name_from (done ++ b ∷ []))
+          (pending_of s.name places) c inner mode (length done) b rest last (omega (arith, s.open_few, enough))));
+    })
+
+-- ---- all moves
+
+-- it isn't that a name or a value has ended
+abbrev pub GoesOn : Move → Type 0
+GoesOn Named = ⊥
+GoesOn Ended = ⊥
+GoesOn move = Unit {0}
+
+stops : (outer : Bracket) (IsBefore : Source outer) (done : List ℕ) (inner : List Bracket)
+    (places : Places) (mode : Mode) (b : ℕ) (item : Option Found)
+    → Stage outer IsBefore done inner places mode b item Stops
+    → Outcome outer IsBefore done inner b step.Stops
+stops outer IsBefore done inner places mode b item s =
+    λ most rest others enough before.
+        let h = (s.left s.has.0 s.has.1 most rest others enough).0 before in
+        h.2.2
+
+pub moved_right : (outer : Bracket) (IsBefore : Source outer) (done : List ℕ) (region : Region)
+    (inner : List Bracket) (places : Places) (mode : Mode) (b : ℕ) (item : Option Found) (move : Move)
+    → GoesOn move → Stage outer IsBefore done inner places mode b item move
+    → Outcome outer IsBefore done inner b
+    (moved (record { region = region; inner = inner; places = places }) item (length done) move)
+moved_right outer IsBefore done region inner places mode b item (To to) on s =
+    leads_to outer IsBefore done inner places region mode to b item s
+moved_right outer IsBefore done region inner places mode b item Names on s =
+    leads_names outer IsBefore done inner places mode b item s
+moved_right outer IsBefore done region inner places mode b item (Begins token) on s =
+    leads_begins outer IsBefore done inner places mode token b item s
+moved_right outer IsBefore done region inner places mode b item (Opens c) on s =
+    opened_by outer IsBefore done inner places mode c b item (nat_le most_inner (length inner)) refl s
+moved_right outer IsBefore done region inner places mode b item Closes on s =
+    leads_closes outer IsBefore done inner places mode b item s
+moved_right outer IsBefore done region inner places mode b item Named on s = absurd on
+moved_right outer IsBefore done region inner places mode b item Ended on s = absurd on
+moved_right outer IsBefore done region inner places mode b item Stops on s =
+    stops outer IsBefore done inner places mode b item s
