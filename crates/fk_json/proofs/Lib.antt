@@ -20,3 +20,4 @@ pub mod Bits
 pub mod Tame
 pub mod Stands
 pub mod Completes
+pub mod Between

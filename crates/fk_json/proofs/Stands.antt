@@ -134,7 +134,7 @@ Outcome outer IsBefore done inner b step.TooDeep =
 Outcome outer IsBefore done inner b step.Stops =
     (most : ℕ) (rest : List ℕ) (others : List (Item outer)) → most_inner ≤ most → ¬ IsBefore most rest others
 
-finds_same : {I : Type 0} (items : List I) (P Q : List I → Type 0) (others : List I)
+pub finds_same : {I : Type 0} (items : List I) (P Q : List I → Type 0) (others : List I)
     → ((last : List I) → (P last) ↔ (Q last)) → (Finds items P others) ↔ (Finds items Q others)
 finds_same items P Q others f = (λ h. (h.0, h.1, (f h.0).0 h.2), λ h. (h.0, h.1, (f h.0).1 h.2))
 
