@@ -21,3 +21,4 @@ pub mod Tame
 pub mod Stands
 pub mod Completes
 pub mod Between
+pub mod Readings
