@@ -22,3 +22,4 @@ pub mod Stands
 pub mod Completes
 pub mod Between
 pub mod Readings
+pub mod Places

@@ -306,6 +306,16 @@ whole_text outer done found standing most all enough is s =
       λ e. ([], e ∙ sym (append-nil found), (left [] is s.fits).1 refl),
     ))
 
+-- no text ends where a scan isn't behind the outermost brackets
+pub unfinished : (outer : Bracket) (done : List ℕ) (found : List (Item outer)) (standing : Standing) (most : ℕ)
+    (all : List (Item outer)) → most_inner ≤ most → is_whole standing.region ≡ false
+    → Stands outer done found standing → ¬ IsTextOf outer (suc most) done all
+unfinished outer done found standing most all enough is s h =
+    let left = (s.left most [] all enough).0
+    (subst (λ x. IsTextOf outer (suc most) x all) (sym (append-nil done)) h) in
+    ends_region outer most (drop standing.places.name_from done) s.name standing.region standing.inner
+    standing.places (length done) left.0 is left.2
+
 -- ---- to some end
 
 completes_region : (outer : Bracket) (levels : ℕ) (front name : List ℕ) (region : Region)
