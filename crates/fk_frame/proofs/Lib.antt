@@ -1,3 +1,4 @@
+pub mod Places
 mod Scans
 mod Apart
 pub mod Lines

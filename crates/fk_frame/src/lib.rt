@@ -4,5 +4,5 @@
 mod line_reader;
 mod reply;
 
-pub use line_reader::{Line, LineReader};
+pub use line_reader::{LINE_MAX, Line, LineReader};
 pub use reply::{Reply, no_reply_begins_another, write_reply};

@@ -1,20 +1,25 @@
-ghost use Rattle.std.specs.Prelude.{◌≡◌, ◌≤◌, ◌++◌, [], length, drop, IfOk, OnErr, OnOk};
-ghost use Rattle.std.specs.List.{position};
+ghost use Rattle.std.specs.Prelude.{◌≡◌, ◌≤◌, ◌+◌, ◌++◌, [], length, drop, IfOk, OnErr, OnOk};
+ghost use Rattle.std.specs.List.{position, position_or_len};
 ghost use Rattle.fk_frame.specs.Bytes.{is_line_feed};
-ghost use Rattle.fk_frame.specs.Lines.{without_return};
+ghost use Rattle.fk_frame.specs.Lines.{is_too_long, without_return};
 ghost use Rattle.fk_frame.specs.Reading.{Reads};
 
 use fk_json::Text;
 use std::alloc::{AllocError, Global};
 use std::marker::Model;
 
+/// The most bytes that a line may have before its LF, with the CR.
+pub const LINE_MAX: usize = 4_194_304;
+
 /// What a reader of lines has next.
 #[derive(Debug, Drop)]
 pub enum Line {
     /// A whole line, without its LF and without the CR before that.
     Whole(Text),
-    /// No line ends in what was fed.
+    /// No line ends in what was fed, and what there is of one fits.
     Need,
+    /// The next line has more than `LINE_MAX` bytes. Nothing comes out from then on.
+    TooLong,
 }
 
 /// Cuts a stream that comes in any pieces into its lines.
@@ -65,13 +70,17 @@ impl LineReader {
         ensures ok { IfOk result (λ line. Reads self.old line self.new) }
         ensures err { OnErr result (self.new ≡ self.old) }
     {
-        let Some(place) = line_feed_at(bytes_from(&self.buffer, self.scanned)) else {
-            self.scanned = self.buffer.len();
+        let end = line_end(&self.buffer, self.scanned);
+        let line = &self.buffer[self.from..end];
+        if is_too_long(line) {
+            self.scanned = end;
+            return Ok(Line::TooLong);
+        }
+        if end == self.buffer.len() {
+            self.scanned = end;
             return Ok(Line::Need);
-        };
-        let end = self.scanned + place;
-        let line = line_before(&self.buffer[self.from..end]);
-        let text = Text::copy(*self.buffer.allocator(), line)?;
+        }
+        let text = Text::copy(*self.buffer.allocator(), line_before(line))?;
         self.from = end + 1;
         self.scanned = end + 1;
         Ok(Line::Whole(text))
@@ -97,6 +106,17 @@ fn line_feed_at(bytes: &[u8]) -> Option<usize>
     bytes.iter().position(|byte| *byte == b'\n')
 }
 
+// The place of the first LF from a place on, or the length where there is none.
+#[tactic(auto, using(crate::proofs::Places::unwrap_or_position))]
+fn line_end(bytes: &[u8], start: usize) -> usize
+    requires { start ≤ length bytes.now }
+    ensures place { result ≡ start + position_or_len is_line_feed (drop start bytes.now) }
+    ensures within { result ≤ length bytes.now }
+{
+    let rest = bytes_from(bytes, start);
+    start + line_feed_at(rest).unwrap_or(rest.len())
+}
+
 // The bytes from a place on.
 #[tactic(auto, using(std::proofs::lemmas::List::take_rest))]
 fn bytes_from(bytes: &[u8], start: usize) -> &[u8]
@@ -104,6 +124,13 @@ fn bytes_from(bytes: &[u8], start: usize) -> &[u8]
     ensures { result.now ≡ drop start bytes.now }
 {
     &bytes[start..]
+}
+
+// Whether what stands before an LF, or before the end, is more than a line may have.
+fn is_too_long(line: &[u8]) -> bool
+    ensures { result ≡ is_too_long line.now }
+{
+    line.len() > LINE_MAX
 }
 
 // What stands before an LF, without the CR at its end.
@@ -159,7 +186,7 @@ mod tests {
     ) -> Result<(), AllocError> {
         match reader.next()? {
             Line::Whole(line) => assert_eq!(rt; line.len(), length),
-            Line::Need => assert!(rt; false, "a line is missing"),
+            Line::Need | Line::TooLong => assert!(rt; false, "a line is missing"),
         }
         Ok(())
     }
@@ -186,17 +213,70 @@ mod tests {
         Ok(())
     }
 
-    #[test]
-    fn a_long_line_of_many_pieces_comes_out_in_good_time(rt: HostRuntime) -> Result<(), Fail> {
-        let stream = vec![in rt.alloc(); b'x'; 4_000_000]?;
-        let mut reader = LineReader::new(rt.alloc());
+    fn expect_too_long(rt: &impl Abort, reader: &mut LineReader) -> Result<(), AllocError> {
+        assert!(rt; matches!(reader.next()?, Line::TooLong));
+        Ok(())
+    }
+
+    // A reader that was fed a line of this length at once, and another one behind it.
+    fn fed_at_once(alloc: Global, length: usize) -> Result<LineReader, AllocError> {
+        let mut stream = vec![in alloc; b'x'; length]?;
+        stream.extend_from_slice(b"\nEND\n")?;
+        let mut reader = LineReader::new(alloc);
+        reader.feed(&stream)?;
+        Ok(reader)
+    }
+
+    // A reader that was fed so many bytes of a line in many pieces, and needed more each time.
+    fn fed_in_pieces(
+        rt: &impl Abort,
+        alloc: Global,
+        length: usize,
+    ) -> Result<LineReader, AllocError> {
+        let stream = vec![in alloc; b'x'; length]?;
+        let mut reader = LineReader::new(alloc);
         for piece in stream.chunks(4_096) {
             reader.feed(piece)?;
-            expect_need(&rt, &mut reader)?;
+            expect_need(rt, &mut reader)?;
         }
-        reader.feed(b"\r\n")?;
-        expect_line(&rt, &mut reader, 4_000_000)?;
+        Ok(reader)
+    }
+
+    #[test]
+    fn the_longest_line_is_taken(rt: HostRuntime) -> Result<(), Fail> {
+        let mut reader = fed_at_once(rt.alloc(), 4_194_304)?;
+        expect_line(&rt, &mut reader, 4_194_304)?;
+        expect_line(&rt, &mut reader, 3)?;
         expect_need(&rt, &mut reader)?;
+        Ok(())
+    }
+
+    #[test]
+    fn a_longer_line_is_refused_and_none_behind_it_comes_out(rt: HostRuntime) -> Result<(), Fail> {
+        let mut reader = fed_at_once(rt.alloc(), 4_194_305)?;
+        for _ in 0..3 {
+            expect_too_long(&rt, &mut reader)?;
+            reader.feed(b"END\n")?;
+        }
+        Ok(())
+    }
+
+    #[test]
+    fn the_longest_line_of_many_pieces_comes_out_in_good_time(rt: HostRuntime) -> Result<(), Fail> {
+        let mut reader = fed_in_pieces(&rt, rt.alloc(), 4_194_303)?;
+        reader.feed(b"\r\n")?;
+        expect_line(&rt, &mut reader, 4_194_303)?;
+        expect_need(&rt, &mut reader)?;
+        Ok(())
+    }
+
+    #[test]
+    fn the_cr_of_a_line_counts(rt: HostRuntime) -> Result<(), Fail> {
+        let mut reader = fed_in_pieces(&rt, rt.alloc(), 4_194_304)?;
+        for piece in [b"\r".as_slice(), b"\n", b"END\r\n"] {
+            reader.feed(piece)?;
+            expect_too_long(&rt, &mut reader)?;
+        }
         Ok(())
     }
 }

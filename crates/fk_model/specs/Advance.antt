@@ -15,6 +15,6 @@ pub record Advances
   pub comes : (more : List ℕ) →
       phase_from from (lines_of (bytes ++ more)) ≡ phase_from to (lines_of (rest ++ more))
 
--- no line is left to be answered: the talk is over, or no line ends in the bytes at hand
+-- no line is left to be answered: the talk is over, or the bytes at hand have none
 abbrev pub IsIdle : Phase → List ℕ → Type 0
 IsIdle phase bytes = (phase ≡ Over) ⊎ (lines_of bytes ≡ [])

@@ -8,7 +8,7 @@ pub enum Phase {
     Greeted,
     /// A HELLO was accepted.
     Accepted,
-    /// The client said END.
+    /// The client said END, or sent a line that is too long.
     Over,
 }
 

@@ -79,7 +79,7 @@ answered first now phase lines count stands =
       kept = stands.keeps ∙ ap (λ items. first.kept ++ kept_texts items) (sym is);
     }
 
--- the client said END
+-- the client ended the talk
 pub ends_over : (first now : Setting) (lines : List ℕ) (count : ℕ) → Stands first now Over lines count → IsSession Closed first now
 ends_over first now lines count stands = (
   stands.taken,

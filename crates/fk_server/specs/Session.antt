@@ -38,9 +38,9 @@ pub record IsAnswered (old new : Setting) (taken written : List ℕ) : Type 0 wh
   pub replies : written ≡ output taken
   pub kept : new.kept ≡ old.kept ++ kept_texts (script taken)
 
--- At most the last piece of the bytes taken may be without its answer, and no END stands before that
--- piece: either nothing was taken, or some bytes without END, to which all was written, and then at
--- most a piece.
+-- At most the last piece of the bytes taken may be without its answer, and the talk did not end before
+-- that piece: either nothing was taken, or some bytes that don't end the talk, to which all was
+-- written, and then at most a piece.
 abbrev pub IsPrompt : List ℕ → List ℕ → Type 0
 IsPrompt taken written = (taken ≡ []) ⊎ ((before piece : List ℕ) × (taken ≡ before ++ piece)
     × (length piece ≤ PIECE) × ¬ IsOver before × Begins (output before) written)
@@ -51,7 +51,7 @@ IsReadToEnd new taken = (length taken < TAKEN_MAX) × IsAtEnd new.left
 
 -- what each end says
 abbrev pub HasEnded : Ended → Setting → Setting → List ℕ → List ℕ → Type 0
--- all was answered, and the client said END or has no more to say
+-- all was answered, and the client ended the talk or has no more to say
 HasEnded Closed old new taken written =
     IsAnswered old new taken written × (IsOver taken ⊎ (¬ IsOver taken × IsReadToEnd new taken))
 -- all was answered, and the next read failed

@@ -1,11 +1,12 @@
-ghost use Rattle.std.specs.Prelude.{◌≡◌, ◌++◌, IfErr, OnOk, OnErr};
+ghost use Rattle.std.specs.Prelude.{◌≡◌, ◌++◌, [], ◌∷◌, IfErr, OnOk, OnErr};
 ghost use Rattle.std.specs.Option.{option_to_list};
+ghost use Rattle.fk_frame.specs.declared.line_reader.Line.TheVariants.{Whole};
 ghost use Rattle.fk_frame.specs.Replies.{reply_bytes, IsWellFormed};
 ghost use Rattle.fk_model.specs.Advance.{IsIdle};
-ghost use Rattle.fk_model.specs.Script.{item_of, phase_after, replies, kept_texts};
+ghost use Rattle.fk_model.specs.Script.{too_long, item_of, phase_after, replies, kept_texts};
 ghost use Rattle.fk_server.specs.Answering.{written, standing, Wrote, Stops, Answers, StopsAnswering};
 
-use crate::talk::{next_phase, read_item};
+use crate::talk::{next_phase, read_item, refuse_long_line};
 use fk_frame::{Line, LineReader, write_reply};
 use fk_io::{Ended, Sink};
 use fk_json::{Text, Texts};
@@ -62,7 +63,7 @@ pub fn answer<K: Sink>(
     write_all(output, bytes.bytes())
 }
 
-/// Answers the lines that end in the bytes at hand, in order, up to END.
+/// Answers the lines of the bytes at hand, in order, up to END or to one that is too long.
 pub fn serve_lines<K: Sink>(
     alloc: Global,
     phase: &mut Phase,
@@ -84,13 +85,14 @@ pub fn serve_lines<K: Sink>(
     'lines: while *phase != Phase::Over {
         match lines.next()? {
             Line::Need => return Ok(()),
+            Line::TooLong => return end_at_long_line(alloc, phase, output, kept),
             Line::Whole(line) => serve_line(alloc, phase, line.bytes(), output, kept)?,
         }
     }
     Ok(())
 }
 
-/// Answers one line.
+/// Answers one whole line.
 fn serve_line<K: Sink>(
     alloc: Global,
     phase: &mut Phase,
@@ -98,20 +100,40 @@ fn serve_line<K: Sink>(
     output: &mut K,
     kept: &mut Texts,
 ) -> Result<(), Ended>
-    ensures phase { OnOk result (phase.new ≡ phase_after phase.old line.now) }
+    ensures phase { OnOk result (phase.new ≡ phase_after phase.old (Whole line.now)) }
     ensures ok { OnOk result (Wrote (written (K.held output.old) (K.write_faults output.old))
         (written (K.held output.new) (K.write_faults output.new))
-        (replies (option_to_list (item_of phase.old line.now)))) }
+        (replies (option_to_list (item_of phase.old (Whole line.now))))) }
     ensures keeps { OnOk result
-        (kept.new ≡ kept.old ++ kept_texts (option_to_list (item_of phase.old line.now))) }
+        (kept.new ≡ kept.old ++ kept_texts (option_to_list (item_of phase.old (Whole line.now)))) }
     ensures err { IfErr result (λ ended. Stops ended
         (written (K.held output.old) (K.write_faults output.old))
         (written (K.held output.new) (K.write_faults output.new))
-        (replies (option_to_list (item_of phase.old line.now)))) }
+        (replies (option_to_list (item_of phase.old (Whole line.now))))) }
 {
     if let Some(item) = read_item(alloc, *phase, line)? {
         answer(alloc, item, output, kept)?;
     }
     *phase = next_phase(*phase, line);
+    Ok(())
+}
+
+/// Answers a line that is too long, and ends the talk.
+fn end_at_long_line<K: Sink>(
+    alloc: Global,
+    phase: &mut Phase,
+    output: &mut K,
+    kept: &mut Texts,
+) -> Result<(), Ended>
+    ensures phase { OnOk result (phase.new ≡ Phase.Over) }
+    ensures ok { OnOk result (Wrote (written (K.held output.old) (K.write_faults output.old))
+        (written (K.held output.new) (K.write_faults output.new)) (replies (too_long ∷ []))) }
+    ensures keeps { OnOk result (kept.new ≡ kept.old) }
+    ensures err { IfErr result (λ ended. Stops ended
+        (written (K.held output.old) (K.write_faults output.old))
+        (written (K.held output.new) (K.write_faults output.new)) (replies (too_long ∷ []))) }
+{
+    answer(alloc, refuse_long_line(alloc), output, kept)?;
+    *phase = Phase::Over;
     Ok(())
 }

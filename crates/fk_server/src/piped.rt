@@ -11,10 +11,11 @@ use std::alloc::Global;
 const USAGE: u8 = 2;
 
 /// Serves one connection over an input and an output, without waiting for anybody, and answers the
-/// exit status: 0 where the client said END or the input ended, 2 where the words aren't the one
-/// word `pipe`, 3 where a read failed, 4 where a write failed, 7 where 2^62 bytes were taken and
-/// more would be read, and 8 for want of memory. The texts of the jobs that were taken are added to
-/// `kept`; after 4 and 8 nothing is said of it.
+/// exit status: 0 where the client ended the talk or the input ended, 2 where the words aren't the
+/// one word `pipe`, 3 where a read failed, 4 where a write failed, 7 where 2^62 bytes were taken and
+/// more would be read, and 8 for want of memory. The client ends the talk by END, or by a line that
+/// is too long. The texts of the jobs that were taken are added to `kept`; after 4 and 8 nothing is
+/// said of it.
 pub fn pipe<S: Source, K: Sink>(
     alloc: Global,
     words: &[&str],

@@ -33,8 +33,8 @@ struct Session {
     taken: u64,
 }
 
-/// Serves one connection: the greeting, and then for each piece that is read the replies to the
-/// lines that end in it, before the next is read.
+/// Serves one connection: the greeting, and then for each piece that is read the replies that are
+/// due behind it, before the next is read.
 pub fn serve<S: Source, K: Sink>(
     alloc: Global,
     input: &mut S,

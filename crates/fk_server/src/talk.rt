@@ -1,18 +1,19 @@
 ghost use Rattle.std.specs.Prelude.{◌≡◌, ◌≤◌, length, position, IfOk, IfSome};
 ghost use Rattle.std.specs.List.{position_or_len};
+ghost use Rattle.fk_frame.specs.declared.line_reader.Line.TheVariants.{Whole};
 ghost use Rattle.fk_frame.specs.Replies.{IsOneLine, IsWellFormed};
 ghost use Rattle.fk_model.specs.Commands.{verb, arguments, is_plain_hello, is_space};
-ghost use Rattle.fk_model.specs.Script.{ok, refused, pushed, command_item, handshake_item, item_of, phase_after};
+ghost use Rattle.fk_model.specs.Script.{ok, refused, too_long, pushed, command_item, handshake_item, item_of, phase_after};
 
 use fk_frame::Reply;
 use fk_json::{Text, plain_form};
 use fk_model::{Item, Phase};
 use std::alloc::{AllocError, Global};
 
-/// What the line of a talk gives, if it gives anything.
+/// What a whole line of a talk gives, if it gives anything.
 #[tactic(auto, unfolding(fk_model::specs::Script::item_of))]
 pub fn read_item(alloc: Global, phase: Phase, line: &[u8]) -> Result<Option<Item>, AllocError>
-    ensures item { IfOk result (λ item. item ≡ item_of phase line.now) }
+    ensures item { IfOk result (λ item. item ≡ item_of phase (Whole line.now)) }
     ensures reply { IfOk result (λ item. IfSome item (λ item. IsWellFormed item.reply)) }
 {
     let is_end = verb_of(line) == b"END".as_slice();
@@ -25,10 +26,10 @@ pub fn read_item(alloc: Global, phase: Phase, line: &[u8]) -> Result<Option<Item
     }
 }
 
-/// How far the talk has come behind a line.
+/// How far the talk has come behind a whole line.
 #[tactic(auto, unfolding(fk_model::specs::Script::phase_after))]
 pub fn next_phase(phase: Phase, line: &[u8]) -> Phase
-    ensures { result ≡ phase_after phase line.now }
+    ensures { result ≡ phase_after phase (Whole line.now) }
 {
     let is_end = verb_of(line) == b"END".as_slice();
     match phase {
@@ -41,6 +42,14 @@ pub fn next_phase(phase: Phase, line: &[u8]) -> Phase
     }
 }
 
+/// What a line that is too long gives, before and behind a HELLO.
+pub fn refuse_long_line(alloc: Global) -> Item
+    ensures item { result ≡ too_long }
+    ensures reply { IsWellFormed result.reply }
+{
+    refuse(alloc, b"ERR Line too long")
+}
+
 /// The place of the line's first space.
 fn first_space(line: &[u8]) -> Option<usize>
     ensures { result ≡ position is_space line.now }
@@ -49,7 +58,7 @@ fn first_space(line: &[u8]) -> Option<usize>
 }
 
 /// The place of the line's first space, or the line's length where it has none.
-#[tactic(auto, using(crate::proofs::Places::unwrap_or_position))]
+#[tactic(auto, using(fk_frame::proofs::Places::unwrap_or_position))]
 fn space_at(line: &[u8]) -> usize
     ensures place { result ≡ position_or_len is_space line.now }
     ensures within { result ≤ length line.now }

@@ -4,6 +4,7 @@ use crate::pipe;
 use fk_io::{ByteSink, ByteSource, Failed, Sink, Source};
 use fk_json::Texts;
 use std::alloc::{AllocError, Global};
+use std::process::Abort;
 use std::test::Fail;
 
 const HELLO: &[u8] = b"HELLO {\"v\":2}\r\n";
@@ -97,6 +98,18 @@ fn a_push_is_answered_and_end_ends(rt: HostRuntime) -> Result<(), Fail> {
 }
 
 #[test]
+fn nothing_behind_end_is_answered(rt: HostRuntime) -> Result<(), Fail> {
+    let ran = ran(rt.alloc(), &[HELLO, END, PUSH], &PLAIN)?;
+    assert_eq!(rt; ran.status, 0);
+    assert_eq!(rt;
+        ran.written.as_slice(),
+        b"+HI {\"v\":2}\r\n+OK\r\n".as_slice()
+    );
+    assert_eq!(rt; ran.kept.len(), 0);
+    Ok(())
+}
+
+#[test]
 fn pieces_of_one_byte_with_line_feeds_alone_give_the_same(rt: HostRuntime) -> Result<(), Fail> {
     let hello = b"HELLO {\"v\":2}\n";
     let push = b"PUSH {\"jid\":\"abcdefgh\",\"jobtype\":\"Mail\",\"args\":[1,2.50]}\n";
@@ -158,6 +171,70 @@ fn each_line_has_its_reply(rt: HostRuntime) -> Result<(), Fail> {
     assert_eq!(rt; ran.status, 0);
     assert_eq!(rt; ran.written.as_slice(), wanted.as_slice());
     assert_eq!(rt; ran.kept.len(), 1);
+    Ok(())
+}
+
+/// Runs a long line behind another one, and expects these replies behind the greeting.
+fn expect_replies(
+    rt: &impl Abort,
+    alloc: Global,
+    first: &[u8],
+    length: usize,
+    end: &[u8],
+    replies: &[u8],
+) -> Result<(), AllocError> {
+    let line = vec![in alloc; b'x'; length]?;
+    let ran = ran(alloc, &[first, &line, end], &PLAIN)?;
+    assert_eq!(rt; ran.status, 0);
+    let written = joined(alloc, &[b"+HI {\"v\":2}\r\n", replies])?;
+    assert_eq!(rt; ran.written.as_slice(), written.as_slice());
+    Ok(())
+}
+
+#[test]
+fn a_line_has_at_most_4194304_bytes_with_its_cr(rt: HostRuntime) -> Result<(), Fail> {
+    let unknown = b"+OK\r\n-ERR Unknown command\r\n".as_slice();
+    let too_long = b"+OK\r\n-ERR Line too long\r\n".as_slice();
+    let table = [
+        (4_194_303, b"\r\n".as_slice(), unknown),
+        (4_194_304, b"\r\n", too_long),
+        (4_194_304, b"", b"+OK\r\n"),
+        (4_194_305, b"", too_long),
+    ];
+    for (length, end, replies) in table {
+        expect_replies(&rt, rt.alloc(), HELLO, length, end, replies)?;
+    }
+    Ok(())
+}
+
+#[test]
+fn a_line_too_long_is_refused_before_hello(rt: HostRuntime) -> Result<(), Fail> {
+    let reply = b"-ERR Line too long\r\n";
+    expect_replies(&rt, rt.alloc(), b"", 4_194_305, b"\n", reply)?;
+    Ok(())
+}
+
+#[test]
+fn what_follows_a_line_too_long_is_unread(rt: HostRuntime) -> Result<(), Fail> {
+    let mut cuts = vec![in rt.alloc(); 4_096usize; 1_026]?;
+    cuts[0] = HELLO.len();
+    cuts[1_025] = 2;
+    let outside = Outside {
+        cuts: &cuts,
+        ..PLAIN
+    };
+    let line = vec![in rt.alloc(); b'x'; 4_194_305]?;
+    let ran = ran(rt.alloc(), &[HELLO, &line, b"\n", PUSH, END], &outside)?;
+    assert_eq!(rt; ran.status, 0);
+    assert_eq!(rt;
+        ran.written.as_slice(),
+        b"+HI {\"v\":2}\r\n+OK\r\n-ERR Line too long\r\n".as_slice()
+    );
+    assert_eq!(rt; ran.kept.len(), 0);
+    assert_eq!(rt;
+        ran.left.as_slice(),
+        joined(rt.alloc(), &[PUSH, END])?.as_slice()
+    );
     Ok(())
 }
 

@@ -1,6 +1,8 @@
+use Rattle.std.proofs.Common.{◌≢◌, rules}
 use Rattle.std.proofs.lemmas.Result.{err_from_is_err_and}
-use Rattle.fk_frame.specs.Reading.{IsFirstLine}
-use Rattle.fk_server.proofs.Answering.{answers_nothing, answers_line, stops_at_line}
+use Rattle.fk_frame.specs.Reading.{IsFirstLine, HasLongLine}
+use Rattle.fk_model.specs.declared.item.Phase.TheVariants.{Over}
+use Rattle.fk_server.proofs.Answering.{answers_nothing, answers_line, answers_long_line, stops_at_line, stops_at_long_line}
 use Rattle.fk_server.proofs.answer.serve_lines.Goals as goal
 
 pub lines-init : goal.lines-init
@@ -21,3 +23,17 @@ lines-preserved g c =
     (rw c.bytes.ensures at c.in_ok-serve_line-in-Whole.ensures.phase)
     (rw c.bytes.ensures at c.in_ok-serve_line-in-Whole.ensures.ok)
     (rw c.bytes.ensures at c.in_ok-serve_line-in-Whole.ensures.keeps)
+
+pub returns-in-TooLong-clause-ok : goal.returns-in-TooLong-clause-ok
+returns-in-TooLong-clause-ok g c =
+    let long : HasLongLine c.lines.lines c.next.new.self = rw c.in-TooLong.is at c.in_ok-next.ensures.ok in
+    let going : c.lines.phase ≢ Over = search rules in
+    answers_long_line c.end_at_long_line.result _ _ _ c.lines.invariant long going
+    c.end_at_long_line.ensures.phase c.end_at_long_line.ensures.ok c.end_at_long_line.ensures.keeps
+
+pub returns-in-TooLong-clause-err : goal.returns-in-TooLong-clause-err
+returns-in-TooLong-clause-err g c =
+    let long : HasLongLine c.lines.lines c.next.new.self = rw c.in-TooLong.is at c.in_ok-next.ensures.ok in
+    let going : c.lines.phase ≢ Over = search rules in
+    stops_at_long_line c.end_at_long_line.result _ _ _ c.next.new.self c.lines.invariant long going
+    c.end_at_long_line.ensures.err

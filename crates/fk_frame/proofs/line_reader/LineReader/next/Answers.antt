@@ -1,25 +1,32 @@
-use Rattle.std.proofs.Common.{◌≡◌, ◌∙◌, length, drop, Some, None}
-use Rattle.std.specs.List.{position}
-use Rattle.fk_frame.specs.Bytes.{is_line_feed}
-use Rattle.fk_frame.proofs.Scans.{scanned_all, no_line, first_line}
+use Rattle.std.proofs.Common.{◌≡◌, ◌<◌, ◌∙◌, length, arith, sym}
+use Rattle.fk_frame.proofs.Scans.{scanned_on, no_line, long_line, first_line}
 use Rattle.fk_frame.proofs.line_reader.LineReader.next.Goals as goal
 
 pub invariant_of-self : goal.invariant_of-self
 invariant_of-self c =
-    let items = c.self.inside.buffer.items in
-    let none : position is_line_feed (drop c.self.inside.scanned items) ≡ None = cc in
-    let len : c.len-self-inside.result ≡ length items = cc in
-    rw len (scanned_all _ _ _ c.self.invariant none)
+    scanned_on _ _ _ _ c.self.invariant (rw c.deref.ensures.value at c.line_end-end.ensures.place)
 
-pub returns-in_default-clause-ok : goal.returns-in_default-clause-ok
-returns-in_default-clause-ok c =
-    let items = c.self.inside.buffer.items in
-    let none : position is_line_feed (drop c.self.inside.scanned items) ≡ None = cc in
-    rw (← c.self.view_is) (no_line _ _ _ c.self.invariant none)
+pub returns-then-is_too_long-clause-ok : goal.returns-then-is_too_long-clause-ok
+returns-then-is_too_long-clause-ok c =
+    let place = rw c.deref.ensures.value at c.line_end-end.ensures.place in
+    let long = rw c.deref-2.ensures.value at (sym c.is_too_long.ensures ∙ c.if-is_too_long.true) in
+    rw (← c.self.view_is) (long_line _ _ _ _ c.self.invariant place long)
+
+pub invariant_of-self-then-end-len : goal.invariant_of-self-then-end-len
+invariant_of-self-then-end-len c =
+    scanned_on _ _ _ _ c.self.invariant (rw c.deref.ensures.value at c.line_end-end.ensures.place)
+
+pub returns-then-end-len-clause-ok : goal.returns-then-end-len-clause-ok
+returns-then-end-len-clause-ok c =
+    let place = rw c.deref.ensures.value at c.line_end-end.ensures.place in
+    let short = rw c.deref-2.ensures.value at (sym c.is_too_long.ensures ∙ c.if-is_too_long.false) in
+    let all : c.line_end-end.result ≡ length c.self.inside.buffer.items = cc in
+    rw (← c.self.view_is) (no_line _ _ _ _ c.self.invariant place all short)
 
 pub returns-clause-ok : goal.returns-clause-ok
 returns-clause-ok c =
-    let items = c.self.inside.buffer.items in
-    let found : position is_line_feed (drop c.self.inside.scanned items) ≡ Some c.in-Some.place = cc in
-    let text = c.in_ok-text.ensures ∙ (rw c.deref-2.ensures.value at c.line_before-line.ensures) in
-    rw (← c.self.view_is, text) (first_line _ _ _ _ c.self.invariant found)
+    let place = rw c.deref.ensures.value at c.line_end-end.ensures.place in
+    let short = rw c.deref-2.ensures.value at (sym c.is_too_long.ensures ∙ c.if-is_too_long.false) in
+    let found : c.line_end-end.result < length c.self.inside.buffer.items = omega arith in
+    let text = c.in_ok-text.ensures ∙ (rw c.deref-2.ensures.value at c.line_before.ensures) in
+    rw (← c.self.view_is, text) (first_line _ _ _ _ c.self.invariant place found short)
