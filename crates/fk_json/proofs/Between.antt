@@ -7,7 +7,7 @@ use Rattle.fk_json.specs.String.{IsString}
 use Rattle.fk_json.specs.Tokens.{StringLeft, string_ends}
 use Rattle.fk_json.specs.Moves.{innermost, most_inner, move_of}
 use Rattle.fk_json.specs.Left.{ColonLeft, Fits, Item, Pending, ended, outermost}
-use Rattle.fk_json.specs.Standing.{LevelsLeft, NameRest, between, between_by, ended_at, found_in, frame_in, named_at, pending_in, pending_of, placed}
+use Rattle.fk_json.specs.Standing.{Adds, IsKnown, LevelsLeft, NameRest, between, between_by, ended_at, found_in, frame_in, named_at, pending_in, pending_of, placed}
 use Rattle.fk_json.specs.declared.mode.Bracket.{Bracket}
 use Rattle.fk_json.specs.declared.mode.Bracket.TheVariants.{Array, Object}
 use Rattle.fk_json.specs.declared.mode.Mode.{Mode}
@@ -20,7 +20,7 @@ use Rattle.fk_json.specs.declared.standing.Region.TheVariants.{Between}
 use Rattle.fk_json.specs.declared.standing.Step.{Step}
 use Rattle.fk_json.specs.declared.string_mode.StringMode.{StringMode}
 use Rattle.fk_json.proofs.Leads.{BetweenLeft, MovedLeft, between_moves}
-use Rattle.fk_json.proofs.Stands.{Adds, Finds, GoesOn, IsKnown, KnownBetween, Outcome, Source, Stage, Stands, between_at, finds_same, moved_right}
+use Rattle.fk_json.proofs.Stands.{Finds, GoesOn, KnownBetween, Outcome, Source, Stage, Stands, between_at, finds_same, moved_right}
 use Rattle.fk_json.proofs.Steps.{IsNamed, same, through}
 use Rattle.fk_json.proofs.StringLeft.{string_may_end}
 use Rattle.fk_json.proofs.Strings.{one_value}

@@ -23,3 +23,4 @@ pub mod Completes
 pub mod Between
 pub mod Readings
 pub mod Places
+pub mod ReadTo

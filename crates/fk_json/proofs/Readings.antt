@@ -6,7 +6,7 @@ use Rattle.std.proofs.lemmas.List.{append_assoc, append-nil, length-append}
 use Rattle.fk_json.specs.Json.{Begins, BeginsSome, FailsAt, IsSpace, IsTooDeepAt, is_space, most_levels}
 use Rattle.fk_json.specs.Moves.{innermost, most_inner, opening}
 use Rattle.fk_json.specs.Left.{ByteThen, FirstLeft, Fits, Item, Spaced, outermost}
-use Rattle.fk_json.specs.Standing.{IsTextOf, LevelsLeft, RegionLeft, before, behind, first_standing, goes, is_whole, pending_of, read, read_in, to_mode}
+use Rattle.fk_json.specs.Standing.{Adds, IsKnown, IsTextOf, LevelsLeft, RegionLeft, before, behind, first_standing, goes, is_whole, pending_of, read, read_in, to_mode}
 use Rattle.fk_json.specs.declared.mode.Bracket.{Bracket}
 use Rattle.fk_json.specs.declared.mode.Bracket.TheVariants.{Array, Object}
 use Rattle.fk_json.specs.declared.mode.Mode.TheVariants.{First}
@@ -24,7 +24,7 @@ use Rattle.fk_json.proofs.Levels.{array_more, object_more}
 use Rattle.fk_json.proofs.Opened.{array_text_opened, object_text_opened}
 use Rattle.fk_json.proofs.Parts.{head_of, tail_of}
 use Rattle.fk_json.proofs.Spaces.{byte_else, byte_nil, byte_on, spaced_nil, spaced_none, spaced_on}
-use Rattle.fk_json.proofs.Stands.{Adds, Finds, FitsIn, IsKnown, KnownBetween, Leads, NamedIn, Outcome, Stands, between_at}
+use Rattle.fk_json.proofs.Stands.{Finds, FitsIn, KnownBetween, Leads, NamedIn, Outcome, Stands, between_at}
 use Rattle.fk_json.proofs.Steps.{back, neither, same, through}
 
 -- ---- the start

@@ -9,7 +9,7 @@ use Rattle.fk_json.specs.String.{IsString}
 use Rattle.fk_json.specs.Tokens.{StringLeft, string_ends, string_step}
 use Rattle.fk_json.specs.Moves.{innermost, most_inner, move_of, opening}
 use Rattle.fk_json.specs.Left.{ByteThen, FirstLeft, Fits, Item, ModeLeft, Pending, Spaced, ended, outermost}
-use Rattle.fk_json.specs.Standing.{IsTextOf, LevelsLeft, NameRest, RegionLeft, StandingLeft, before, behind, begun_at, between_by, closed, closed_in, ended_at, first_standing, found_in, frame_in, goes, moved, named_at, names_at, no_item, opened, pending_in, pending_of, placed, read, read_in, to_mode}
+use Rattle.fk_json.specs.Standing.{Adds, IsKnown, IsTextOf, LevelsLeft, NameOf, NameRest, RegionLeft, StandingLeft, name_text, before, behind, begun_at, between_by, closed, closed_in, ended_at, first_standing, found_in, frame_in, goes, moved, named_at, names_at, no_item, opened, pending_in, pending_of, placed, read, read_in, to_mode}
 use Rattle.fk_json.specs.declared.mode.Bracket.{Bracket}
 use Rattle.fk_json.specs.declared.mode.Bracket.TheVariants.{Array, Object}
 use Rattle.fk_json.specs.declared.mode.Mode.{Mode}
@@ -45,16 +45,6 @@ abbrev pub NamedIn : List ℕ → List Bracket → Region → Type 0
 NamedIn front inner (Between mode) = IsNamed mode (NameRest front inner mode)
 NamedIn front inner region = Unit {0}
 
--- the bytes of the name at these places
-abbrev pub name_text : List ℕ → Places → List ℕ
-name_text text places = drop places.name_from (take places.name_to text)
-
--- the name was read, and this is its value
-pub record IsKnown (text : List ℕ) (places : Places) (name : List ℕ) : Type 0 where
-  pub ordered : places.name_from ≤ places.name_to
-  pub within : places.name_to ≤ length text
-  pub spelled : IsString (name_text text places) name
-
 -- it is known where a member's value is read
 abbrev pub KnownBetween : Bracket → List Bracket → Mode → Type 0 → Type 0
 KnownBetween Array inner mode X = Unit {0}
@@ -87,18 +77,6 @@ pub record Stands
       → (IsTextOf outer (suc most) (done ++ rest) all)
       ↔ (Finds found (λ others. LevelsLeft outer most (drop standing.places.name_from done) name standing
       (length done) rest others) all)
-
--- a member's name is that of its places
-abbrev pub NameOf : Bracket → List ℕ → Found → List ℕ → Type 0
-NameOf Array text found name = Unit {0}
-NameOf Object text found name = IsKnown text found.places name
-
--- what an item that was found adds to the items
-abbrev pub Adds : (outer : Bracket) → List ℕ → Option Found → List (Item outer) → Type 0
-Adds outer text None items = items ≡ []
-Adds outer text (Some found) items =
-    (name : List ℕ) × NameOf outer text found name × (items ≡ ended outer (pending_of name found.places) found.to ∷ [])
-
 
 -- ---- one byte more
 

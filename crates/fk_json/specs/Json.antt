@@ -6,6 +6,8 @@ use Rattle.fk_json.specs.String.{IsString}
 use Rattle.fk_json.specs.Number.{IsNumber}
 use Rattle.fk_json.specs.declared.member.Member.{Member}
 use Rattle.fk_json.specs.declared.span.Span.{Span}
+use Rattle.fk_json.specs.declared.fault.JsonFault.{JsonFault}
+use Rattle.fk_json.specs.declared.fault.JsonFault.TheVariants.{Syntax, TooDeep, NoMemory}
 
 -- a space, a tab, a line feed or a carriage return
 abbrev pub is_space : ℕ → Bool
@@ -148,3 +150,9 @@ pub record IsTooDeepAt
   pub begins : Begins IsTextOf most_levels (take at text)
   pub goes_on : BeginsSome IsTextOf (take (at + 1) text)
   pub too_deep : ¬ Begins IsTextOf most_levels (take (at + 1) text)
+
+-- what a fault says of a text
+abbrev pub Faults : {I : Type 0} → (ℕ → List ℕ → List I → Type 0) → List ℕ → JsonFault → Type 0
+Faults IsTextOf text (Syntax at) = FailsAt IsTextOf text at
+Faults IsTextOf text (TooDeep at) = IsTooDeepAt IsTextOf text at
+Faults IsTextOf text NoMemory = Unit {0}

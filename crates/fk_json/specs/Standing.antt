@@ -1,5 +1,5 @@
 -- Where a scan stands in a text, how a byte leads on, and what is left to be read from there.
-use Rattle.std.specs.Prelude.{◌≡◌, ◌==◌, ℕ, zero, suc, ◌+◌, nat_le, Bool, true, false, if◌then◌else◌, List, [], ◌∷◌, ◌++◌, length, Option, None, Some}
+use Rattle.std.specs.Prelude.{◌≡◌, ◌==◌, ℕ, zero, suc, ◌+◌, ◌≤◌, nat_le, Bool, true, false, if◌then◌else◌, List, [], ◌∷◌, ◌++◌, length, take, drop, Option, None, Some}
 use Rattle.fk_json.specs.Json.{IsArrayText, IsObjectText, IsSpace, IsValue, is_space}
 use Rattle.fk_json.specs.String.{IsString}
 use Rattle.fk_json.specs.Tokens.{StringLeft}
@@ -185,3 +185,31 @@ abbrev pub LevelsLeft : (outer : Bracket) → ℕ → List ℕ → List ℕ → 
 LevelsLeft outer most front name standing at text found =
     (levels : ℕ) × (levels + length standing.inner ≡ most)
     × StandingLeft outer levels front name standing at text found
+
+-- ---- what is found
+
+-- the bytes of the name at these places
+abbrev pub name_text : List ℕ → Places → List ℕ
+name_text text places = drop places.name_from (take places.name_to text)
+
+-- the name was read, and this is its value
+pub record IsKnown (text : List ℕ) (places : Places) (name : List ℕ) : Type 0 where
+  pub ordered : places.name_from ≤ places.name_to
+  pub within : places.name_to ≤ length text
+  pub spelled : IsString (name_text text places) name
+
+-- a member's name is that of its places
+abbrev pub NameOf : Bracket → List ℕ → Found → List ℕ → Type 0
+NameOf Array text found name = Unit {0}
+NameOf Object text found name = IsKnown text found.places name
+
+-- what an item that was found adds to the items
+abbrev pub Adds : (outer : Bracket) → List ℕ → Option Found → List (Item outer) → Type 0
+Adds outer text None items = items ≡ []
+Adds outer text (Some found) items =
+    (name : List ℕ) × NameOf outer text found name × (items ≡ ended outer (pending_of name found.places) found.to ∷ [])
+
+-- a member that was found has a name at its places
+abbrev pub HasName : List ℕ → Option Found → Type 0
+HasName text None = Unit {0}
+HasName text (Some found) = (name : List ℕ) × IsKnown text found.places name

@@ -1,0 +1,209 @@
+-- A text that was read up to a place: on by a byte, to its end, and where it stops.
+use Rattle.std.proofs.Common.{◌≡◌, ◌↔◌, ℕ, suc, ◌+◌, ◌-◌, ◌≤◌, ◌<◌, Bool, true, false, List, [], ◌∷◌, ◌++◌, length, take, drop, slice_index_or, Option, None, Some, Result, Ok, Err, IfOk, IfSome, MatchOption, refl, sym, ap, subst, ◌∙◌, arith}
+use Rattle.std.proofs.Math.Seq.{split_at}
+use Rattle.std.proofs.lemmas.List.{drop-take, length-append, length-take-le, take-append-drop, take-append-le, take_all, take_more}
+use Rattle.fk_json.specs.Json.{FailsAt, IsTooDeepAt, most_levels}
+use Rattle.fk_json.specs.String.{IsString}
+use Rattle.fk_json.specs.Moves.{most_inner}
+use Rattle.fk_json.specs.Left.{Item, ended}
+use Rattle.fk_json.specs.Standing.{Adds, HasName, IsKnown, IsTextOf, NameOf, first_standing, is_whole, name_text, pending_of, read}
+use Rattle.fk_json.specs.declared.mode.Bracket.{Bracket}
+use Rattle.fk_json.specs.declared.mode.Bracket.TheVariants.{Array, Object}
+use Rattle.fk_json.specs.declared.standing.Found.{Found}
+use Rattle.fk_json.specs.declared.standing.Places.{Places}
+use Rattle.fk_json.specs.declared.standing.Standing.{Standing}
+use Rattle.fk_json.specs.declared.standing.Step.{Step}
+use Rattle.fk_json.specs.declared.standing.Step.TheVariants as step
+use Rattle.fk_json.proofs.Places.{ends_early, fails_at, too_deep_at}
+use Rattle.fk_json.proofs.Readings.{Ahead, goes_on, read_right, starts, whole_text}
+use Rattle.fk_json.proofs.Stands.{Outcome, Stands}
+use Rattle.fk_json.proofs.Strings.{one_value}
+
+-- the bytes before a place were read
+pub record IsReadTo (outer : Bracket) (text : List ℕ) (at : ℕ) (found : List (Item outer)) (standing : Standing)
+    : Type 0 where
+  pub within : at ≤ length text
+  pub stands : Stands outer (take at text) found standing
+
+pub read_starts : (outer : Bracket) (text : List ℕ) (found : List (Item outer)) (standing : Standing)
+    → found ≡ [] → standing ≡ first_standing → IsReadTo outer text 0 found standing
+read_starts outer text found standing e f = record {
+  within = omega (arith);
+  stands = subst (λ x. Stands outer [] x standing) (sym e) (subst (Stands outer [] []) (sym f) (starts outer));
+}
+
+-- ---- the byte at a place
+
+abbrev byte_at : List ℕ → ℕ → ℕ
+byte_at text at = slice_index_or text at 0
+
+whole_at : (text : List ℕ) (at : ℕ) → at < length text
+    → text ≡ take at text ++ byte_at text at ∷ drop (suc at) text
+whole_at text at l = split_at text at 0 l
+
+-- what the byte at a place does, from the bytes before it
+outcome_at : (outer : Bracket) (text : List ℕ) (at : ℕ) (found : List (Item outer)) (standing : Standing)
+    (led : Step) → at < length text → (r : IsReadTo outer text at found standing)
+    → led ≡ read outer standing at (byte_at text at)
+    → Outcome outer (Ahead outer (take at text) r.stands.name standing (byte_at text at)) (take at text)
+    standing.inner (byte_at text at) led
+outcome_at outer text at found standing led l r is =
+    let place : length (take at text) ≡ at = length-take-le at text r.within in
+    let same = ap (λ n. read outer standing n (byte_at text at)) place ∙ sym is in
+    subst (Outcome outer (Ahead outer (take at text) r.stands.name standing (byte_at text at)) (take at text)
+    standing.inner (byte_at text at)) same
+    (read_right outer (take at text) found standing (byte_at text at) r.stands)
+
+-- ---- what is found
+
+known_front : (text : List ℕ) (at : ℕ) (places : Places) → places.name_to ≤ length (take at text)
+    → name_text text places ≡ name_text (take at text) places
+known_front text at places within =
+    ap (λ x. drop places.name_from x)
+    (ap (λ x. take places.name_to x) (sym (take-append-drop at text))
+    ∙ take-append-le places.name_to (take at text) (drop at text) within)
+
+front_short : (text : List ℕ) (at : ℕ) → length (take at text) ≤ length text
+front_short text at =
+    let whole : length (take at text ++ drop at text) ≡ length text = ap (λ x. length x) (take-append-drop at text) in
+    omega (arith, whole, length-append (take at text) (drop at text))
+
+known_whole : (text : List ℕ) (at : ℕ) (places : Places) (name : List ℕ) → IsKnown (take at text) places name
+    → IsKnown text places name
+known_whole text at places name known = record {
+  ordered = known.ordered;
+  within = omega (arith, known.within, front_short text at);
+  spelled = subst (λ x. IsString x name) (sym (known_front text at places known.within)) known.spelled;
+}
+
+-- what an item adds to the items is said of the bytes before it, too
+adds_front : (outer : Bracket) (text : List ℕ) (at : ℕ) (item : Option Found) (items : List (Item outer))
+    → ((some : List (Item outer)) × Adds outer (take at text) item some) → Adds outer text item items
+    → Adds outer (take at text) item items
+adds_front outer text at None items has adds = adds
+adds_front Array text at (Some found) items has adds = adds
+adds_front Object text at (Some found) items (some, (name, known, is)) (other, spelled, e) =
+    let front = known_front text at found.places known.within in
+    let same = one_value (name_text (take at text) found.places) other name
+    (subst (λ x. IsString x other) front spelled.spelled) known.spelled in
+    (name, known, e ∙ ap (λ x. ended Object (pending_of x found.places) found.to ∷ []) same)
+
+name_of : (text : List ℕ) (at : ℕ) (item : Option Found)
+    → ((some : List (Item Object)) × Adds Object (take at text) item some) → HasName text item
+name_of text at None has = tt
+name_of text at (Some found) (some, (name, known, is)) = (name, known_whole text at found.places name known)
+
+-- ---- on by a byte
+
+pub read_on : (outer : Bracket) (text : List ℕ) (at : ℕ) (found items : List (Item outer))
+    (standing next : Standing) (item : Option Found) → at < length text
+    → IsReadTo outer text at found standing → step.Goes next item ≡ read outer standing at (byte_at text at)
+    → Adds outer text item items → IsReadTo outer text (at + 1) (found ++ items) next
+read_on outer text at found items standing next item l r is adds =
+    let (has, leads) = outcome_at outer text at found standing (step.Goes next item) l r is in
+    record {
+      within = omega (arith, l);
+      stands = subst (λ x. Stands outer x (found ++ items) next) (sym (take_more text at 0 l))
+      (goes_on outer (take at text) found standing (byte_at text at) items next r.stands
+      (leads items (adds_front outer text at item items has adds)));
+    }
+
+pub read_name : (text : List ℕ) (at : ℕ) (found : List (Item Object)) (standing next : Standing)
+    (item : Option Found) → at < length text → IsReadTo Object text at found standing
+    → step.Goes next item ≡ read Object standing at (byte_at text at) → HasName text item
+read_name text at found standing next item l r is =
+    name_of text at item (outcome_at Object text at found standing (step.Goes next item) l r is).0
+
+-- the items are these, by whatever list they were put into
+pub read_adds : (outer : Bracket) (text : List ℕ) (at : ℕ) (found new : List (Item outer))
+    (standing next : Standing) (item : Option Found) → at < length text
+    → IsReadTo outer text at found standing → step.Goes next item ≡ read outer standing at (byte_at text at)
+    → ((items : List (Item outer)) × Adds outer text item items × (new ≡ found ++ items))
+    → IsReadTo outer text (at + 1) new next
+read_adds outer text at found new standing next item l r is (items, adds, e) =
+    subst (λ x. IsReadTo outer text (at + 1) x next) (sym e)
+    (read_on outer text at found items standing next item l r is adds)
+
+-- where an item adds to the items, whatever the text: an element has no name
+pub any_text : (text : List ℕ) (item : Option Found) (items : List (Item Array)) → Adds Array [] item items
+    → Adds Array text item items
+any_text text None items adds = adds
+any_text text (Some found) items adds = adds
+
+-- ---- where it stops
+
+at_front : (outer : Bracket) (P : (ℕ → List ℕ → List (Item outer) → Type 0) → List ℕ → ℕ → Type 0)
+    (text : List ℕ) (at : ℕ) → at < length text
+    → P (IsTextOf outer) (take at text ++ byte_at text at ∷ drop (suc at) text) (length (take at text))
+    → P (IsTextOf outer) text at
+at_front outer P text at l h =
+    subst (λ n. P (IsTextOf outer) text n) (length-take-le at text (omega (arith, l)))
+    (subst (λ x. P (IsTextOf outer) x (length (take at text))) (sym (whole_at text at l)) h)
+
+pub read_stops : (outer : Bracket) (text : List ℕ) (at : ℕ) (found : List (Item outer)) (standing : Standing)
+    → at < length text → IsReadTo outer text at found standing
+    → step.Stops ≡ read outer standing at (byte_at text at) → FailsAt (IsTextOf outer) text at
+read_stops outer text at found standing l r is =
+    at_front outer FailsAt text at l
+    (fails_at outer (take at text) found standing (byte_at text at) (drop (suc at) text) r.stands
+    (outcome_at outer text at found standing step.Stops l r is))
+
+pub read_deep : (outer : Bracket) (text : List ℕ) (at : ℕ) (found : List (Item outer)) (standing : Standing)
+    → at < length text → IsReadTo outer text at found standing
+    → step.TooDeep ≡ read outer standing at (byte_at text at) → IsTooDeepAt (IsTextOf outer) text at
+read_deep outer text at found standing l r is =
+    at_front outer IsTooDeepAt text at l
+    (too_deep_at outer (take at text) found standing (byte_at text at) (drop (suc at) text) r.stands
+    (outcome_at outer text at found standing step.TooDeep l r is))
+
+-- a text that goes too deep is none of so many levels
+pub deep_none : {I : Type 0} (IsTextIn : ℕ → List ℕ → List I → Type 0) (text : List ℕ) (at : ℕ) (items : List I)
+    → IsTooDeepAt IsTextIn text at → ¬ IsTextIn most_levels text items
+deep_none IsTextIn text at items deep is =
+    deep.too_deep (drop (at + 1) text, items, subst (λ x. IsTextIn most_levels x items)
+    (sym (take-append-drop (at + 1) text)) is)
+
+-- ---- the end
+
+read_whole : (outer : Bracket) (text : List ℕ) (at : ℕ) (found : List (Item outer)) (standing : Standing)
+    → length text ≤ at → IsReadTo outer text at found standing → Stands outer text found standing
+read_whole outer text at found standing over r =
+    subst (λ x. Stands outer x found standing) (take_all at text over) r.stands
+
+pub read_ended : (outer : Bracket) (text : List ℕ) (at : ℕ) (found all : List (Item outer)) (standing : Standing)
+    → length text ≤ at → IsReadTo outer text at found standing → is_whole standing.region ≡ true
+    → (IsTextOf outer most_levels text all) ↔ (all ≡ found)
+read_ended outer text at found all standing over r is =
+    whole_text outer text found standing most_inner all (omega (arith)) is
+    (read_whole outer text at found standing over r)
+
+pub read_early : (outer : Bracket) (text : List ℕ) (at : ℕ) (found : List (Item outer)) (standing : Standing)
+    → length text ≤ at → IsReadTo outer text at found standing → is_whole standing.region ≡ false
+    → FailsAt (IsTextOf outer) text (length text)
+read_early outer text at found standing over r is =
+    ends_early outer text found standing is (read_whole outer text at found standing over r)
+
+-- ---- a name at its places
+
+pub name_slice : (text : List ℕ) (places : Places) → places.name_from ≤ places.name_to
+    → take (places.name_to - places.name_from) (drop places.name_from text) ≡ name_text text places
+name_slice text places l =
+    let e : places.name_from + (places.name_to - places.name_from) ≡ places.name_to = omega (arith, l) in
+    sym (drop-take places.name_from (places.name_to - places.name_from) text)
+    ∙ ap (λ n. drop places.name_from (take n text)) e
+
+pub finds_name : {E : Type 0} (text : List ℕ) (places : Places) (name : List ℕ)
+    (r : Result (Option (List ℕ)) E) → IsKnown text places name
+    → IfOk r (λ found. IfSome found (λ value. IsString
+    (take (places.name_to - places.name_from) (drop places.name_from text)) value))
+    → (r ≡ Ok None → (value : List ℕ) → ¬ IsString
+    (take (places.name_to - places.name_from) (drop places.name_from text)) value)
+    → IfOk r (λ found. MatchOption found ⊥ (λ value. IsKnown text places value))
+finds_name text places name (Ok None) known some none =
+    none refl name (subst (λ x. IsString x name) (sym (name_slice text places known.ordered)) known.spelled)
+finds_name text places name (Ok (Some value)) known some none = record {
+  ordered = known.ordered;
+  within = known.within;
+  spelled = subst (λ x. IsString x value) (name_slice text places known.ordered) some;
+}
+finds_name text places name (Err e) known some none = tt
