@@ -1,26 +1,24 @@
 -- One byte between the outermost brackets, from where a scan stands: what it ends, and where it leads.
-use Rattle.std.proofs.Common.{◌≡◌, ◌↔◌, ℕ, suc, ◌+◌, ◌≤◌, Bool, true, List, [], ◌∷◌, ◌++◌, length, take, drop, Option, None, Some, refl, sym, ap, subst, ◌∙◌, arith}
+use Rattle.std.proofs.Common.{◌≡◌, ◌↔◌, ℕ, ◌≤◌, List, [], ◌∷◌, ◌++◌, length, drop, Option, None, Some, refl, sym, ap, subst, ◌∙◌, arith}
 use Rattle.std.proofs.Math.Seq.{take-length}
 use Rattle.std.proofs.lemmas.List.{append-nil}
-use Rattle.fk_json.specs.Json.{IsSpace, IsValue}
+use Rattle.fk_json.specs.Json.{IsValue}
 use Rattle.fk_json.specs.String.{IsString}
-use Rattle.fk_json.specs.Tokens.{StringLeft, string_ends}
 use Rattle.fk_json.specs.Moves.{innermost, most_inner, move_of}
-use Rattle.fk_json.specs.Left.{ColonLeft, Fits, Item, Pending, ended, outermost}
-use Rattle.fk_json.specs.Standing.{Adds, IsKnown, LevelsLeft, NameRest, between, between_by, ended_at, found_in, frame_in, named_at, pending_in, pending_of, placed}
+use Rattle.fk_json.specs.Left.{ColonLeft, Fits, Item, ended, outermost}
+use Rattle.fk_json.specs.Standing.{between, between_by, found_in, placed}
+use Rattle.fk_json.specs.Remainder.{Adds, IsKnown, NameRest, pending_of}
 use Rattle.fk_json.specs.declared.mode.Bracket.{Bracket}
 use Rattle.fk_json.specs.declared.mode.Bracket.TheVariants.{Array, Object}
 use Rattle.fk_json.specs.declared.mode.Mode.{Mode}
 use Rattle.fk_json.specs.declared.mode.Mode.TheVariants.{First, Next, Naming, Colon, Value, Within, After}
 use Rattle.fk_json.specs.declared.mode.Move.{Move}
 use Rattle.fk_json.specs.declared.mode.Move.TheVariants.{To, Names, Begins, Opens, Closes, Named, Ended, Stops}
-use Rattle.fk_json.specs.declared.standing.Found.{Found}
 use Rattle.fk_json.specs.declared.standing.Places.{Places}
 use Rattle.fk_json.specs.declared.standing.Region.TheVariants.{Between}
-use Rattle.fk_json.specs.declared.standing.Step.{Step}
 use Rattle.fk_json.specs.declared.string_mode.StringMode.{StringMode}
 use Rattle.fk_json.proofs.Leads.{BetweenLeft, MovedLeft, between_moves}
-use Rattle.fk_json.proofs.Stands.{Finds, GoesOn, KnownBetween, Outcome, Source, Stage, Stands, between_at, finds_same, moved_right}
+use Rattle.fk_json.proofs.Stands.{Finds, GoesOn, KnownBetween, Outcome, Source, Stage, between_at, finds_same, moved_right}
 use Rattle.fk_json.proofs.Steps.{IsNamed, same, through}
 use Rattle.fk_json.proofs.StringLeft.{string_may_end}
 use Rattle.fk_json.proofs.Strings.{one_value}

@@ -3,9 +3,9 @@ use Rattle.std.proofs.Common.{◌≡◌, inl, inr, ℕ, suc, ◌+◌, List, [], 
 use Rattle.fk_json.specs.Json.{IsSpace, IsValue}
 use Rattle.fk_json.specs.String.{IsString}
 use Rattle.fk_json.specs.Tokens.{TokenLeft}
-use Rattle.fk_json.specs.Moves.{closing, innermost, opening}
+use Rattle.fk_json.specs.Moves.{innermost, opening}
 use Rattle.fk_json.specs.Left.{AfterLeft, ByteThen, ColonLeft, FirstLeft, Fits, Frame, IsNothing, Item, ItemsLeft, ModeLeft, NameLeft, Pending, Spaced, TailLeft, ValueLeft, WithinLeft, ended, outermost}
-use Rattle.fk_json.specs.Standing.{NameRest, frame_in, no_item, pending_in}
+use Rattle.fk_json.specs.Remainder.{NameRest, frame_in, no_item, pending_in}
 use Rattle.fk_json.specs.declared.member.Member.{Member}
 use Rattle.fk_json.specs.declared.mode.Bracket.{Bracket}
 use Rattle.fk_json.specs.declared.mode.Bracket.TheVariants.{Array, Object}

@@ -1,12 +1,12 @@
 -- What is left of a value, of a name, or behind an item, when its first byte is taken.
-use Rattle.std.proofs.Common.{◌≡◌, ◌≢◌, ◌⊎◌, inl, inr, ◌↔◌, ◌==◌, ◌||◌, ℕ, ◌+◌, Bool, true, false, List, [], ◌∷◌, ◌++◌, length, refl, sym, ap, subst, ◌∙◌, arith}
-use Rattle.std.proofs.lemmas.Bool.{eqb-false, eqb-true, false≢true, or_cases}
+use Rattle.std.proofs.Common.{◌≡◌, ◌≢◌, inl, inr, ◌↔◌, ℕ, ◌+◌, Bool, true, false, List, [], ◌∷◌, ◌++◌, length, refl, sym, ap, subst, ◌∙◌, arith}
+use Rattle.std.proofs.lemmas.Bool.{false≢true}
 use Rattle.fk_json.specs.Json.{is_space}
 use Rattle.fk_json.specs.Tokens.{follows}
-use Rattle.fk_json.specs.Left.{AfterLeft, ByteThen, ColonLeft, Frame, ItemsLeft, NameLeft, Spaced, TailLeft, ValueLeft, WithinLeft}
+use Rattle.fk_json.specs.Left.{AfterLeft, ByteThen, ColonLeft, Frame, ItemsLeft, NameLeft, TailLeft, ValueLeft, WithinLeft}
 use Rattle.fk_json.specs.declared.member.Member.{Member}
 use Rattle.fk_json.proofs.Parts.{head_of, tail_of}
-use Rattle.fk_json.proofs.Spaces.{at_place, byte_else, byte_nil, byte_on, spaced_nil, spaced_none, spaced_on}
+use Rattle.fk_json.proofs.Spaces.{byte_nil, byte_on, spaced_nil, spaced_none}
 
 -- a bracket closes
 pub record Closing (close : ℕ) : Type 0 where

@@ -1,12 +1,13 @@
 -- Where a move leads: what is left before a byte is what is left behind it, with brackets in brackets.
-use Rattle.std.proofs.Common.{◌≡◌, ◌⊎◌, inl, inr, ◌↔◌, ◌==◌, ℕ, zero, suc, ◌+◌, ◌≤◌, Bool, true, false, List, [], ◌∷◌, ◌++◌, length, Option, None, Some, if◌then◌else◌, refl, sym, ap, subst, ◌∙◌, arith}
-use Rattle.std.proofs.lemmas.List.{append_assoc, append-nil}
+use Rattle.std.proofs.Common.{◌≡◌, ◌↔◌, ℕ, zero, suc, ◌+◌, ◌≤◌, List, [], ◌∷◌, ◌++◌, length, Some, refl, sym, subst, arith}
+use Rattle.std.proofs.lemmas.List.{append_assoc}
 use Rattle.fk_json.specs.Json.{IsArray, IsObject, IsSpace, IsValue}
 use Rattle.fk_json.specs.String.{IsString}
-use Rattle.fk_json.specs.Tokens.{StringLeft, TokenLeft, string_ends, string_step}
+use Rattle.fk_json.specs.Tokens.{string_step}
 use Rattle.fk_json.specs.Moves.{innermost, move_of, opening}
-use Rattle.fk_json.specs.Left.{AfterLeft, ColonLeft, FirstLeft, Fits, Frame, IsNothing, Item, ModeLeft, NameLeft, Pending, WithinLeft, ended, nested, outermost}
-use Rattle.fk_json.specs.Standing.{LevelsLeft, NameRest, StandingLeft, frame_in, no_item, pending_in, pending_of, placed}
+use Rattle.fk_json.specs.Left.{FirstLeft, Fits, Frame, IsNothing, Item, ModeLeft, Pending, WithinLeft, ended, nested, outermost}
+use Rattle.fk_json.specs.Standing.{placed}
+use Rattle.fk_json.specs.Remainder.{NameRest, frame_in, no_item, pending_in, pending_of}
 use Rattle.fk_json.specs.declared.member.Member.{Member}
 use Rattle.fk_json.specs.declared.span.Span.{Span}
 use Rattle.fk_json.specs.declared.mode.Bracket.{Bracket}
@@ -14,17 +15,15 @@ use Rattle.fk_json.specs.declared.mode.Bracket.TheVariants.{Array, Object}
 use Rattle.fk_json.specs.declared.mode.Mode.{Mode}
 use Rattle.fk_json.specs.declared.mode.Mode.TheVariants.{First, Next, Naming, Colon, Value, Within, After}
 use Rattle.fk_json.specs.declared.mode.Move.{Move}
-use Rattle.fk_json.specs.declared.mode.Move.TheVariants.{To, Names, Begins, Opens, Closes, Named, Ended, Stops}
+use Rattle.fk_json.specs.declared.mode.Move.TheVariants.{To, Names, Begins, Opens, Closes}
 use Rattle.fk_json.specs.declared.standing.Places.{Places}
 use Rattle.fk_json.specs.declared.string_mode.StringMode.{StringMode}
 use Rattle.fk_json.specs.declared.string_mode.StringMode.TheVariants.{Inside}
 use Rattle.fk_json.specs.declared.token.Token.{Token}
 use Rattle.fk_json.specs.declared.token.Token.TheVariants.{Bracketed}
-use Rattle.fk_json.proofs.Fronts.{EndedLeft, EndedName, NamedLeft}
 use Rattle.fk_json.proofs.Opened.{array_opened, object_opened}
-use Rattle.fk_json.proofs.Steps.{IsNamed, MoveLeft, back, moves_right, none_ends, same, through}
-use Rattle.fk_json.proofs.StringLeft.{string_begins, string_goes, string_may_end}
-use Rattle.fk_json.proofs.Strings.{one_value}
+use Rattle.fk_json.proofs.Steps.{IsNamed, MoveLeft, moves_right, none_ends, same, through}
+use Rattle.fk_json.proofs.StringLeft.{string_begins, string_goes}
 use Rattle.fk_json.proofs.Values.{value_array, value_flat, value_object}
 
 -- what is left between brackets, where so many levels may be open in the outermost

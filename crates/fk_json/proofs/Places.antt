@@ -1,11 +1,12 @@
 -- Where a text stops being one: the place of a fault.
-use Rattle.std.proofs.Common.{◌≡◌, ◌↔◌, ℕ, zero, suc, ◌+◌, ◌-◌, ◌≤◌, ◌<◌, Bool, true, false, List, [], ◌∷◌, ◌++◌, length, take, drop, refl, sym, ap, subst, ◌∙◌, arith}
+use Rattle.std.proofs.Common.{◌≡◌, ℕ, zero, suc, ◌+◌, ◌-◌, ◌≤◌, ◌<◌, false, List, [], ◌∷◌, ◌++◌, length, take, refl, sym, ap, subst, ◌∙◌, arith}
 use Rattle.std.proofs.Math.Seq.{take-append-add, take-append_seam, take-length}
-use Rattle.std.proofs.lemmas.List.{append_assoc, append-nil, length-append}
+use Rattle.std.proofs.lemmas.List.{append_assoc, length-append}
 use Rattle.fk_json.specs.Json.{Begins, BeginsSome, FailsAt, IsTooDeepAt, most_levels}
-use Rattle.fk_json.specs.Moves.{innermost, most_inner}
+use Rattle.fk_json.specs.Moves.{most_inner}
 use Rattle.fk_json.specs.Left.{Fits, Item}
-use Rattle.fk_json.specs.Standing.{IsTextOf, is_whole}
+use Rattle.fk_json.specs.Standing.{is_whole}
+use Rattle.fk_json.specs.Remainder.{IsTextOf}
 use Rattle.fk_json.specs.declared.mode.Bracket.{Bracket}
 use Rattle.fk_json.specs.declared.mode.Bracket.TheVariants.{Array, Object}
 use Rattle.fk_json.specs.declared.mode.Mode.TheVariants.{First}
@@ -13,7 +14,7 @@ use Rattle.fk_json.specs.declared.standing.Standing.{Standing}
 use Rattle.fk_json.specs.declared.standing.Step.TheVariants as step
 use Rattle.fk_json.proofs.Completes.{between_completes}
 use Rattle.fk_json.proofs.Levels.{array_more, object_more}
-use Rattle.fk_json.proofs.Readings.{Ahead, completes_text, whole_text, unfinished}
+use Rattle.fk_json.proofs.Readings.{Ahead, completes_text, unfinished}
 use Rattle.fk_json.proofs.Stands.{Outcome, Stands}
 
 -- a text of so many levels is one of more

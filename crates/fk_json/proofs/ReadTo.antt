@@ -1,12 +1,13 @@
 -- A text that was read up to a place: on by a byte, to its end, and where it stops.
-use Rattle.std.proofs.Common.{◌≡◌, ◌↔◌, ℕ, suc, ◌+◌, ◌-◌, ◌≤◌, ◌<◌, Bool, true, false, List, [], ◌∷◌, ◌++◌, length, take, drop, slice_index_or, Option, None, Some, Result, Ok, Err, IfOk, IfSome, MatchOption, refl, sym, ap, subst, ◌∙◌, arith}
+use Rattle.std.proofs.Common.{◌≡◌, ◌↔◌, ℕ, suc, ◌+◌, ◌-◌, ◌≤◌, ◌<◌, true, false, List, [], ◌∷◌, ◌++◌, length, take, drop, slice_index_or, Option, None, Some, Result, Ok, Err, IfOk, IfSome, MatchOption, refl, sym, ap, subst, ◌∙◌, arith}
 use Rattle.std.proofs.Math.Seq.{split_at}
 use Rattle.std.proofs.lemmas.List.{drop-take, length-append, length-take-le, take-append-drop, take-append-le, take_all, take_more}
 use Rattle.fk_json.specs.Json.{FailsAt, IsTooDeepAt, most_levels}
 use Rattle.fk_json.specs.String.{IsString}
 use Rattle.fk_json.specs.Moves.{most_inner}
 use Rattle.fk_json.specs.Left.{Item, ended}
-use Rattle.fk_json.specs.Standing.{Adds, HasName, IsKnown, IsTextOf, NameOf, first_standing, is_whole, name_text, pending_of, read}
+use Rattle.fk_json.specs.Standing.{first_standing, is_whole, read}
+use Rattle.fk_json.specs.Remainder.{Adds, HasName, IsKnown, IsTextOf, name_text, pending_of}
 use Rattle.fk_json.specs.declared.mode.Bracket.{Bracket}
 use Rattle.fk_json.specs.declared.mode.Bracket.TheVariants.{Array, Object}
 use Rattle.fk_json.specs.declared.standing.Found.{Found}

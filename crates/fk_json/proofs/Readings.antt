@@ -1,31 +1,28 @@
 -- Reading a text byte by byte: from its start, on by a byte, to its end, and where it stops.
-use Rattle.std.proofs.Common.{◌≡◌, ◌⊎◌, inl, inr, ◌↔◌, ◌==◌, ◌&&◌, ℕ, zero, suc, ◌+◌, ◌≤◌, ◌<◌, Bool, true, false, List, [], ◌∷◌, ◌++◌, length, take, drop, Option, None, Some, if◌then◌else◌, refl, sym, ap, subst, ◌∙◌, arith}
-use Rattle.std.proofs.Math.Seq.{take-append-add, take-append_seam, take-length}
+use Rattle.std.proofs.Common.{◌≡◌, ◌↔◌, ◌==◌, ℕ, zero, suc, ◌+◌, ◌≤◌, Bool, true, false, List, [], ◌∷◌, ◌++◌, length, drop, if◌then◌else◌, refl, sym, ap, subst, ◌∙◌, arith}
 use Rattle.std.proofs.lemmas.Bool.{and_from, and_parts, eqb-false, eqb-true, false≢true}
 use Rattle.std.proofs.lemmas.List.{append_assoc, append-nil, length-append}
-use Rattle.fk_json.specs.Json.{Begins, BeginsSome, FailsAt, IsSpace, IsTooDeepAt, is_space, most_levels}
-use Rattle.fk_json.specs.Moves.{innermost, most_inner, opening}
+use Rattle.fk_json.specs.Json.{IsSpace, is_space}
+use Rattle.fk_json.specs.Moves.{most_inner, opening}
 use Rattle.fk_json.specs.Left.{ByteThen, FirstLeft, Fits, Item, Spaced, outermost}
-use Rattle.fk_json.specs.Standing.{Adds, IsKnown, IsTextOf, LevelsLeft, RegionLeft, before, behind, first_standing, goes, is_whole, pending_of, read, read_in, to_mode}
+use Rattle.fk_json.specs.Standing.{before, behind, first_standing, goes, is_whole, read, read_in, to_mode}
+use Rattle.fk_json.specs.Remainder.{IsKnown, IsTextOf, LevelsLeft, RegionLeft, pending_of}
 use Rattle.fk_json.specs.declared.mode.Bracket.{Bracket}
 use Rattle.fk_json.specs.declared.mode.Bracket.TheVariants.{Array, Object}
 use Rattle.fk_json.specs.declared.mode.Mode.TheVariants.{First}
-use Rattle.fk_json.specs.declared.standing.Found.{Found}
 use Rattle.fk_json.specs.declared.standing.Places.{Places}
 use Rattle.fk_json.specs.declared.standing.Region.{Region}
 use Rattle.fk_json.specs.declared.standing.Region.TheVariants.{Before, Between, Behind}
 use Rattle.fk_json.specs.declared.standing.Standing.{Standing}
 use Rattle.fk_json.specs.declared.standing.Step.{Step}
 use Rattle.fk_json.specs.declared.standing.Step.TheVariants as step
-use Rattle.fk_json.proofs.Between.{Here, Known, between_right}
+use Rattle.fk_json.proofs.Between.{between_right}
 use Rattle.fk_json.proofs.Completes.{before_completes, between_completes}
-use Rattle.fk_json.proofs.Leads.{BetweenLeft, between_ends}
-use Rattle.fk_json.proofs.Levels.{array_more, object_more}
+use Rattle.fk_json.proofs.Leads.{between_ends}
 use Rattle.fk_json.proofs.Opened.{array_text_opened, object_text_opened}
-use Rattle.fk_json.proofs.Parts.{head_of, tail_of}
 use Rattle.fk_json.proofs.Spaces.{byte_else, byte_nil, byte_on, spaced_nil, spaced_none, spaced_on}
-use Rattle.fk_json.proofs.Stands.{Finds, FitsIn, KnownBetween, Leads, NamedIn, Outcome, Stands, between_at}
-use Rattle.fk_json.proofs.Steps.{back, neither, same, through}
+use Rattle.fk_json.proofs.Stands.{Finds, FitsIn, KnownBetween, Leads, NamedIn, Outcome, Stands}
+use Rattle.fk_json.proofs.Steps.{same, through}
 
 -- ---- the start
 

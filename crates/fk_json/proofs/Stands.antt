@@ -1,15 +1,15 @@
 -- Where a scan stands behind the bytes that it has read: what is left is what makes the whole a text.
-use Rattle.std.proofs.Common.{◌≡◌, ◌⊎◌, inl, inr, ◌↔◌, ◌==◌, ℕ, zero, suc, ◌+◌, ◌≤◌, ◌<◌, Bool, true, false, List, [], ◌∷◌, ◌++◌, length, take, drop, Option, None, Some, if◌then◌else◌, refl, sym, ap, subst, ◌∙◌, arith}
+use Rattle.std.proofs.Common.{◌≡◌, ◌↔◌, ℕ, suc, ◌+◌, ◌≤◌, ◌<◌, Bool, true, false, List, [], ◌∷◌, ◌++◌, length, drop, Option, Some, if◌then◌else◌, refl, sym, ap, subst, arith}
 use Rattle.std.specs.Prelude.{nat_le}
-use Rattle.std.proofs.Math.Seq.{drop-append_seam, take-append_seam}
-use Rattle.std.proofs.lemmas.Bool.{eqb-false, eqb-true, leb-true, leb-false}
-use Rattle.std.proofs.lemmas.List.{append_assoc, append-nil, drop-append-le, length-append, take-append-le}
-use Rattle.fk_json.specs.Json.{IsSpace, IsValue, is_space}
+use Rattle.std.proofs.Math.Seq.{drop-append_seam}
+use Rattle.std.proofs.lemmas.Bool.{leb-true, leb-false}
+use Rattle.std.proofs.lemmas.List.{append_assoc, drop-append-le, length-append, take-append-le}
 use Rattle.fk_json.specs.String.{IsString}
-use Rattle.fk_json.specs.Tokens.{StringLeft, string_ends, string_step}
-use Rattle.fk_json.specs.Moves.{innermost, most_inner, move_of, opening}
-use Rattle.fk_json.specs.Left.{ByteThen, FirstLeft, Fits, Item, ModeLeft, Pending, Spaced, ended, outermost}
-use Rattle.fk_json.specs.Standing.{Adds, IsKnown, IsTextOf, LevelsLeft, NameOf, NameRest, RegionLeft, StandingLeft, name_text, before, behind, begun_at, between_by, closed, closed_in, ended_at, first_standing, found_in, frame_in, goes, moved, named_at, names_at, no_item, opened, pending_in, pending_of, placed, read, read_in, to_mode}
+use Rattle.fk_json.specs.Tokens.{StringLeft, string_step}
+use Rattle.fk_json.specs.Moves.{innermost, most_inner}
+use Rattle.fk_json.specs.Left.{Fits, Item, Pending}
+use Rattle.fk_json.specs.Standing.{closed_in, moved, placed}
+use Rattle.fk_json.specs.Remainder.{Adds, IsKnown, IsTextOf, LevelsLeft, NameRest, name_text, pending_of}
 use Rattle.fk_json.specs.declared.mode.Bracket.{Bracket}
 use Rattle.fk_json.specs.declared.mode.Bracket.TheVariants.{Array, Object}
 use Rattle.fk_json.specs.declared.mode.Mode.{Mode}
@@ -27,11 +27,10 @@ use Rattle.fk_json.specs.declared.string_mode.StringMode.{StringMode}
 use Rattle.fk_json.specs.declared.string_mode.StringMode.TheVariants.{Inside}
 use Rattle.fk_json.specs.declared.token.Token.{Token}
 use Rattle.fk_json.specs.declared.token.Token.TheVariants.{Bracketed}
-use Rattle.fk_json.proofs.Leads.{BetweenLeft, MovedLeft, NameLeads, begins_left, between_ends, between_moves, closes_inner, names_left, opens_left, opens_none, pending_at, to_left}
-use Rattle.fk_json.proofs.Steps.{IsNamed, back, neither, same, through}
-use Rattle.fk_json.proofs.StringLeft.{string_begins, string_goes, string_may_end}
-use Rattle.fk_json.proofs.Strings.{one_value}
-use Rattle.fk_json.proofs.Tame.{EndsName, IsAnObject, IsPast, IsTame, IsWithin, LedName, PastBy, tame}
+use Rattle.fk_json.proofs.Leads.{BetweenLeft, MovedLeft, NameLeads, begins_left, closes_inner, names_left, opens_left, opens_none, pending_at, to_left}
+use Rattle.fk_json.proofs.Steps.{IsNamed, through}
+use Rattle.fk_json.proofs.StringLeft.{string_begins, string_goes}
+use Rattle.fk_json.proofs.Tame.{IsAnObject, IsPast, IsTame, LedName, PastBy}
 
 -- ---- what is known where a scan stands
 

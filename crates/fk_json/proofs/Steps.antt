@@ -4,8 +4,8 @@ use Rattle.std.proofs.lemmas.Bool.{eqb-false, eqb-true, false≢true}
 use Rattle.fk_json.specs.Json.{IsValue, is_space}
 use Rattle.fk_json.specs.String.{IsString}
 use Rattle.fk_json.specs.Tokens.{StringLeft, TokenLeft, string_ends, string_step, token_ends, token_first, token_step}
-use Rattle.fk_json.specs.Moves.{behind_item, begun, closing, core_move, item_at, move_of, name_goes, name_led, opening, value_at, value_goes, value_led}
-use Rattle.fk_json.specs.Left.{AfterLeft, ByteThen, ColonLeft, FirstLeft, Fits, Frame, IsItem, Item, ItemsLeft, ModeLeft, NameLeft, Pending, Spaced, TailLeft, ValueLeft, WithinLeft, ended}
+use Rattle.fk_json.specs.Moves.{behind_item, begun, closing, core_move, item_at, move_of, name_led, opening, value_at, value_led}
+use Rattle.fk_json.specs.Left.{AfterLeft, ByteThen, ColonLeft, FirstLeft, Fits, Frame, IsItem, Item, ItemsLeft, ModeLeft, NameLeft, Pending, TailLeft, ValueLeft, WithinLeft, ended}
 use Rattle.fk_json.specs.declared.member.Member.{Member}
 use Rattle.fk_json.specs.declared.mode.Bracket.{Bracket}
 use Rattle.fk_json.specs.declared.mode.Bracket.TheVariants.{Array, Object}
@@ -14,14 +14,13 @@ use Rattle.fk_json.specs.declared.mode.Mode.TheVariants.{First, Next, Naming, Co
 use Rattle.fk_json.specs.declared.mode.Move.{Move}
 use Rattle.fk_json.specs.declared.mode.Move.TheVariants.{To, Names, Begins, Opens, Closes, Named, Ended, Stops}
 use Rattle.fk_json.specs.declared.string_mode.StringMode.{StringMode}
-use Rattle.fk_json.specs.declared.string_mode.StringMode.TheVariants.{Inside}
 use Rattle.fk_json.specs.declared.token.Token.{Token}
 use Rattle.fk_json.proofs.Fronts.{Closing, EndedLeft, EndedName, after_empty, after_follows, colon_empty, name_empty, within_empty, name_ended, name_on, tail_close, tail_comma, tail_else, tail_space, within_ended, within_on, within_stops}
 use Rattle.fk_json.proofs.Items.{elements_apart, members_apart}
 use Rattle.fk_json.proofs.Spaces.{byte_else, byte_nil, byte_on, spaced_nil, spaced_none, spaced_on}
 use Rattle.fk_json.proofs.StringLeft.{string_empty, string_goes, string_none, string_stops, string_unended}
 use Rattle.fk_json.proofs.TokenLeft.{none_some, string_open, token_goes, token_may_end, token_over, token_stops, token_unended}
-use Rattle.fk_json.proofs.Values.{space_first, value_begins, value_empty, value_none, value_space}
+use Rattle.fk_json.proofs.Values.{value_begins, value_empty, value_none, value_space}
 
 -- ---- equivalences
 

@@ -1,9 +1,9 @@
 -- What a move keeps: names go on in names, arrays have none, and a value stands behind its name.
-use Rattle.std.proofs.Common.{◌≡◌, ◌≢◌, ◌==◌, ℕ, Bool, true, false, Option, None, Some, if◌then◌else◌, refl, sym, ap, subst, ◌∙◌}
+use Rattle.std.proofs.Common.{◌≡◌, ◌==◌, ℕ, Bool, true, false, Option, None, Some, if◌then◌else◌, refl}
 use Rattle.std.proofs.lemmas.Bool.{eqb-true}
 use Rattle.fk_json.specs.Json.{is_space}
 use Rattle.fk_json.specs.Tokens.{string_ends, string_step, token_ends, token_first, token_step}
-use Rattle.fk_json.specs.Moves.{behind_item, begun, closing, core_move, item_at, move_of, name_goes, name_led, value_at, value_goes, value_led}
+use Rattle.fk_json.specs.Moves.{behind_item, begun, closing, core_move, item_at, move_of, name_led, value_at, value_led}
 use Rattle.fk_json.specs.Left.{Fits}
 use Rattle.fk_json.specs.declared.mode.Bracket.{Bracket}
 use Rattle.fk_json.specs.declared.mode.Bracket.TheVariants.{Array, Object}

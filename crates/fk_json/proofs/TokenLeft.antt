@@ -1,8 +1,8 @@
 -- Values without brackets, read byte by byte: what is left behind a byte, and where they may end.
-use Rattle.std.proofs.Common.{◌≡◌, ◌↔◌, ℕ, Bool, true, false, List, [], ◌∷◌, Option, None, Some, refl, sym, ap, subst, ◌∙◌}
-use Rattle.std.specs.Prelude.{option_map, unwrap_or, if◌then◌else◌}
+use Rattle.std.proofs.Common.{◌≡◌, ◌↔◌, ℕ, true, false, List, [], ◌∷◌, Option, None, Some, refl, sym, ap, subst, ◌∙◌}
+use Rattle.std.specs.Prelude.{option_map, unwrap_or}
 use Rattle.std.proofs.lemmas.Bool.{false≢true}
-use Rattle.fk_json.specs.Tokens.{TokenLeft, follows, letters_end, letters_step, letters_text, number_ends, number_step, string_ends, string_step, token_ends, token_step}
+use Rattle.fk_json.specs.Tokens.{TokenLeft, follows, letters_end, letters_step, letters_text, number_step, string_ends, string_step, token_ends, token_step}
 use Rattle.fk_json.specs.declared.string_mode.StringMode.{StringMode}
 use Rattle.fk_json.specs.declared.string_mode.StringMode.TheVariants.{Inside, Escape, Four, Three, Two, One, LastByte, TwoBytes, ThreeBytes, NotOverlongOfThree, NoSurrogate, NotOverlongOfFour, NotPastTheLast, Closed}
 use Rattle.fk_json.specs.declared.token.Letters.{Letters}

@@ -1,9 +1,8 @@
 -- What is left to be read between brackets, in the words of the grammar: the rest of the items, the
 -- closing bracket, and what stands behind it.
 use Rattle.std.specs.Prelude.{◌≡◌, ◌⊎◌, ℕ, ◌+◌, List, [], ◌∷◌, ◌++◌, length}
-use Rattle.fk_json.specs.String.{IsString}
 use Rattle.fk_json.specs.Json.{AreJoined, IsElement, IsMember, IsSpace, IsValue}
-use Rattle.fk_json.specs.Tokens.{StringLeft, TokenLeft}
+use Rattle.fk_json.specs.Tokens.{TokenLeft}
 use Rattle.fk_json.specs.Moves.{closing}
 use Rattle.fk_json.specs.declared.member.Member.{Member}
 use Rattle.fk_json.specs.declared.span.Span.{Span}

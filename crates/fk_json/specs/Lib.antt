@@ -8,5 +8,6 @@ pub mod Moves
 pub mod Brackets
 pub mod Left
 pub mod Standing
+pub mod Remainder
 pub mod Pairs
 pub mod Pieces

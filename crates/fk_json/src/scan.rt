@@ -2,7 +2,7 @@
 ghost use Rattle.std.specs.Prelude.{◌≡◌, ◌∷◌, ◌++◌, ℕ, List, [], MatchOption, MatchResult, IfErr, IfOk, OnOk};
 ghost use Rattle.fk_json.specs.Json.{Faults, IsArrayText, IsObjectText, most_levels};
 ghost use Rattle.fk_json.specs.Left.{ended};
-ghost use Rattle.fk_json.specs.Standing.{Adds, HasName, IsKnown, pending_of};
+ghost use Rattle.fk_json.specs.Remainder.{Adds, HasName, IsKnown, pending_of};
 ghost use Rattle.fk_json.specs.declared.fault.JsonFault.TheVariants.{NoMemory};
 ghost use Rattle.fk_json.specs.declared.member.Member as declared_member;
 ghost use Rattle.fk_json.specs.declared.mode.Bracket.TheVariants.{Array, Object};

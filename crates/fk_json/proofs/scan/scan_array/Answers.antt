@@ -1,7 +1,7 @@
-use Rattle.std.proofs.Common.{◌≡◌, ◌∷◌, ◌++◌, ℕ, List, [], ◌<◌, ◌≤◌, length, true, false, refl, sym, ap, subst, ◌∙◌, arith}
-use Rattle.fk_json.specs.Json.{FailsAt, IsTooDeepAt, most_levels}
-use Rattle.fk_json.specs.Standing.{IsTextOf}
-use Rattle.fk_json.specs.declared.mode.Bracket.TheVariants.{Array, Object}
+use Rattle.std.proofs.Common.{refl, sym, ◌∙◌}
+use Rattle.fk_json.specs.Json.{most_levels}
+use Rattle.fk_json.specs.Remainder.{IsTextOf}
+use Rattle.fk_json.specs.declared.mode.Bracket.TheVariants.{Array}
 use Rattle.fk_json.proofs.ReadTo.{deep_none, read_deep, read_early, read_ended, read_adds, read_starts, read_stops, any_text}
 use Rattle.fk_json.proofs.scan.scan_array.Goals as goal
 
