@@ -4,6 +4,7 @@ pub mod String
 pub mod Number
 pub mod Tokens
 pub mod Json
+pub mod Members
 pub mod Moves
 pub mod Brackets
 pub mod Left
