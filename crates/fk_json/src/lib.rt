@@ -12,6 +12,10 @@ mod pairs;
 mod piece;
 mod plain;
 mod scan;
+#[cfg(test)]
+mod scan_part_tests;
+#[cfg(test)]
+mod scan_tests;
 mod span;
 mod standing;
 mod string;
