@@ -21,8 +21,9 @@ use Rattle.fk_json.specs.declared.string_mode.StringMode.{StringMode}
 use Rattle.fk_json.specs.declared.string_mode.StringMode.TheVariants.{Inside}
 use Rattle.fk_json.specs.declared.token.Token.{Token}
 use Rattle.fk_json.specs.declared.token.Token.TheVariants.{Bracketed}
+use Rattle.fk_json.specs.Reached.{IsNamed}
 use Rattle.fk_json.proofs.Opened.{array_opened, object_opened}
-use Rattle.fk_json.proofs.Steps.{IsNamed, MoveLeft, moves_right, none_ends, same, through}
+use Rattle.fk_json.proofs.Steps.{MoveLeft, moves_right, none_ends, same, through}
 use Rattle.fk_json.proofs.StringLeft.{string_begins, string_goes}
 use Rattle.fk_json.proofs.Values.{value_array, value_flat, value_object}
 

@@ -12,10 +12,11 @@ use Rattle.fk_json.specs.declared.mode.Bracket.TheVariants.{Array, Object}
 use Rattle.fk_json.specs.declared.mode.Mode.TheVariants.{First}
 use Rattle.fk_json.specs.declared.standing.Standing.{Standing}
 use Rattle.fk_json.specs.declared.standing.Step.TheVariants as step
+use Rattle.fk_json.specs.Reached.{Stands}
 use Rattle.fk_json.proofs.Completes.{between_completes}
 use Rattle.fk_json.proofs.Levels.{array_more, object_more}
 use Rattle.fk_json.proofs.Readings.{Ahead, completes_text, unfinished}
-use Rattle.fk_json.proofs.Stands.{Outcome, Stands}
+use Rattle.fk_json.proofs.Stands.{Outcome}
 
 -- a text of so many levels is one of more
 more : (outer : Bracket) (levels most : ℕ) (text : List ℕ) (items : List (Item outer)) → levels ≤ most

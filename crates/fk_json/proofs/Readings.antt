@@ -16,12 +16,13 @@ use Rattle.fk_json.specs.declared.standing.Region.TheVariants.{Before, Between, 
 use Rattle.fk_json.specs.declared.standing.Standing.{Standing}
 use Rattle.fk_json.specs.declared.standing.Step.{Step}
 use Rattle.fk_json.specs.declared.standing.Step.TheVariants as step
+use Rattle.fk_json.specs.Reached.{Finds, FitsIn, KnownBetween, NamedIn, Stands}
 use Rattle.fk_json.proofs.Between.{between_right}
 use Rattle.fk_json.proofs.Completes.{before_completes, between_completes}
 use Rattle.fk_json.proofs.Leads.{between_ends}
 use Rattle.fk_json.proofs.Opened.{array_text_opened, object_text_opened}
 use Rattle.fk_json.proofs.Spaces.{byte_else, byte_nil, byte_on, spaced_nil, spaced_none, spaced_on}
-use Rattle.fk_json.proofs.Stands.{Finds, FitsIn, KnownBetween, Leads, NamedIn, Outcome, Stands}
+use Rattle.fk_json.proofs.Stands.{Leads, Outcome}
 use Rattle.fk_json.proofs.Steps.{same, through}
 
 -- ---- the start

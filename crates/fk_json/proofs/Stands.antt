@@ -27,55 +27,11 @@ use Rattle.fk_json.specs.declared.string_mode.StringMode.{StringMode}
 use Rattle.fk_json.specs.declared.string_mode.StringMode.TheVariants.{Inside}
 use Rattle.fk_json.specs.declared.token.Token.{Token}
 use Rattle.fk_json.specs.declared.token.Token.TheVariants.{Bracketed}
+use Rattle.fk_json.specs.Reached.{Finds, FitsIn, IsNamed, IsPast, KnownBetween, KnownIn, NamedIn}
 use Rattle.fk_json.proofs.Leads.{BetweenLeft, MovedLeft, NameLeads, begins_left, closes_inner, names_left, opens_left, opens_none, pending_at, to_left}
-use Rattle.fk_json.proofs.Steps.{IsNamed, through}
+use Rattle.fk_json.proofs.Steps.{through}
 use Rattle.fk_json.proofs.StringLeft.{string_begins, string_goes}
-use Rattle.fk_json.proofs.Tame.{IsAnObject, IsPast, IsTame, LedName, PastBy}
-
--- ---- what is known where a scan stands
-
-abbrev pub FitsIn : Bracket → List Bracket → Region → Type 0
-FitsIn outer inner (Between mode) = Fits (innermost outer inner) mode
-FitsIn outer inner Before = inner ≡ []
-FitsIn outer inner Behind = inner ≡ []
-
--- the name that is being read began with these bytes
-abbrev pub NamedIn : List ℕ → List Bracket → Region → Type 0
-NamedIn front inner (Between mode) = IsNamed mode (NameRest front inner mode)
-NamedIn front inner region = Unit {0}
-
--- it is known where a member's value is read
-abbrev pub KnownBetween : Bracket → List Bracket → Mode → Type 0 → Type 0
-KnownBetween Array inner mode X = Unit {0}
-KnownBetween Object [] mode X = IsPast mode → X
-KnownBetween Object (bracket ∷ inner) mode X = X
-
-abbrev pub KnownRegion : Bracket → List Bracket → Region → Type 0 → Type 0
-KnownRegion outer inner (Between mode) X = KnownBetween outer inner mode X
-KnownRegion outer inner region X = Unit {0}
-
-abbrev pub KnownIn : Bracket → List ℕ → List ℕ → Standing → Type 0
-KnownIn outer text name standing =
-    KnownRegion outer standing.inner standing.region (IsKnown text standing.places name)
-
--- the items that are found, and then those that are left
-abbrev pub Finds : {I : Type 0} → List I → (List I → Type 0) → List I → Type 0
-Finds {I} found IsLeft all = (others : List I) × (all ≡ found ++ others) × IsLeft others
-
--- What was read of a text, the items found in it, and where the scan stands: what is left is what
--- makes the whole a text, at each number of levels that is high enough.
-pub record Stands
-    (outer : Bracket) (done : List ℕ) (found : List (Item outer)) (standing : Standing) : Type 0 where
-  pub name : List ℕ
-  pub open_few : length standing.inner ≤ most_inner
-  pub name_within : standing.places.name_from ≤ length done
-  pub fits : FitsIn outer standing.inner standing.region
-  pub named : NamedIn (drop standing.places.name_from done) standing.inner standing.region
-  pub known : KnownIn outer done name standing
-  pub left : (most : ℕ) (rest : List ℕ) (all : List (Item outer)) → most_inner ≤ most
-      → (IsTextOf outer (suc most) (done ++ rest) all)
-      ↔ (Finds found (λ others. LevelsLeft outer most (drop standing.places.name_from done) name standing
-      (length done) rest others) all)
+use Rattle.fk_json.proofs.Tame.{IsAnObject, IsTame, LedName, PastBy}
 
 -- ---- one byte more
 

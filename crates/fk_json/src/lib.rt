@@ -3,6 +3,7 @@
 #![tactic(auto)]
 
 mod brackets;
+mod cursor;
 mod fault;
 mod member;
 mod mode;
