@@ -25,3 +25,4 @@ pub mod Readings
 pub mod Places
 pub mod ReadTo
 pub mod MemberPlaces
+pub mod Decided
