@@ -26,3 +26,4 @@ pub mod Places
 pub mod ReadTo
 pub mod MemberPlaces
 pub mod Decided
+pub mod Unique
