@@ -26,4 +26,5 @@ pub mod Places
 pub mod ReadTo
 pub mod MemberPlaces
 pub mod Decided
+pub mod Settled
 pub mod Unique
