@@ -1,4 +1,4 @@
-use Rattle.std.proofs.Common.{refl, sym, ap, ◌∙◌}
+use Rattle.std.proofs.Common.{sym, ap, ◌∙◌}
 use Rattle.fk_json.specs.declared.standing.Step.TheVariants as step
 use Rattle.fk_json.proofs.ReadTo.{found_named, found_read, read_deep, read_early, read_ended, read_past, read_stops}
 use Rattle.fk_json.proofs.cursor.next_found.Goals as goal
