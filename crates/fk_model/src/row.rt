@@ -1,0 +1,11 @@
+use crate::Place;
+use fk_job::{Job, Stamp};
+
+/// What the server keeps of one push: the job as it was sent, what the server added to it, and
+/// where it stands.
+#[derive(Debug, Drop)]
+pub struct Row {
+    pub job: Job,
+    pub stamp: Stamp,
+    pub place: Place,
+}
