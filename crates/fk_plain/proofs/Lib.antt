@@ -1,2 +1,5 @@
 pub mod Sorting
+pub mod Left
 pub mod Pushing
+pub mod Finding
+pub mod Later

@@ -4,7 +4,13 @@
 mod kept;
 mod orders;
 mod rows;
+mod said;
+mod state;
+mod waiting;
 
 pub use kept::{PlainKept, due_at, pushed_row, reserved_row};
 pub use orders::{comes_before, in_order, with_pair};
 pub use rows::PlainRows;
+pub use said::{is_later, is_served};
+pub use state::{PlainState, PlainWorker, is_running};
+pub use waiting::{first_waiting, is_working, leased, queue, rank_in, rank_of};
