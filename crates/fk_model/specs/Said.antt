@@ -38,15 +38,23 @@ handed_out state moment wid filed =
     kept_and_said state (reserved moment wid state.kept (ticket_of filed))
     (Bulk (row_text (row_of filed).job (row_of filed).stamp))
 
+-- a fetch: the row that the worker is given, or no value
+abbrev pub fetch_effect : State → List ℕ → List (List ℕ) → ℕ → Effect
+fetch_effect state wid queues moment =
+    option_map_or (handed_out state moment wid) (fetched state wid queues) (only_said state Nil)
+
+-- an acknowledgement: the row of that jid leaves, if a worker has one
+abbrev pub ack_effect : State → List ℕ → Effect
+ack_effect state jid =
+    kept_and_said state (option_map_or (finished state.kept) (leased state.kept jid) state.kept) ok
+
 -- what a request does, by the moment and the word of its turn
 unfoldable pub effect_of : State → Ask → ℕ → ℕ → Effect
 effect_of state (Push job) moment word = kept_and_said state (pushed moment state.kept job) ok
 effect_of state (PushBatch jobs told) moment word =
     kept_and_said state (all_pushed moment state.kept jobs) (Bulk told)
-effect_of state (Fetch wid queues) moment word =
-    option_map_or (handed_out state moment wid) (fetched state wid queues) (only_said state Nil)
-effect_of state (Ack jid) moment word =
-    kept_and_said state (option_map_or (finished state.kept) (leased state.kept jid) state.kept) ok
+effect_of state (Fetch wid queues) moment word = fetch_effect state wid queues moment
+effect_of state (Ack jid) moment word = ack_effect state jid
 effect_of state other moment word = only_said state not_served
 
 -- which requests are served yet: pushes of jobs that aren't due later, fetches and acknowledgements

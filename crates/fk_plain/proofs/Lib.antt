@@ -3,3 +3,4 @@ pub mod Left
 pub mod Pushing
 pub mod Finding
 pub mod Later
+pub mod Spelled

@@ -1,11 +1,14 @@
-ghost use Rattle.std.specs.Prelude.{◌≡◌, ◌||◌, length, drop, ◌+◌, ◌<◌, ◌≤◌, IfOk, OnErr, All, List};
+ghost use Rattle.std.specs.Prelude.{◌≡◌, ◌||◌, ◌+◌, ◌<◌, ◌≤◌, length, drop, All, IfOk, OnErr, OnOk};
 ghost use Rattle.std.specs.List.{list_any};
-ghost use Rattle.fk_job.specs.declared.job.Job.{Job as AJob};
-ghost use Rattle.fk_model.specs.Limits.{greatest_next};
+ghost use Rattle.fk_frame.specs.declared.reply.Reply.TheVariants.{Bulk};
+ghost use Rattle.fk_model.specs.declared.move_.Move.TheVariants.{Add};
+ghost use Rattle.fk_model.specs.Limits.{greatest_next, text_limit};
+ghost use Rattle.fk_model.specs.Rows.{ticket_of, row_of};
+ghost use Rattle.fk_model.specs.Spellings.{HasSpelling};
 ghost use Rattle.fk_model.specs.Range.{IsInRange};
 ghost use Rattle.fk_model.specs.Between.{IsBetweenTurns};
-ghost use Rattle.fk_model.specs.Requests.{is_later};
-ghost use Rattle.fk_model.specs.Said.{effect_of, is_served, said};
+ghost use Rattle.fk_model.specs.Requests.{all_pushed, is_later, pushed};
+ghost use Rattle.fk_model.specs.Said.{ack_effect, fetch_effect, is_served, kept_and_said, not_served, ok, said};
 
 use crate::PlainState;
 use crate::kept::due_at;
@@ -59,4 +62,113 @@ pub fn is_served(moment: u64, ask: &Ask) -> bool
         Ask::Ack { .. } => true,
         _ => false,
     }
+}
+
+impl PlainState {
+    /// What is said to a request. The state is then what the request leaves; after want of memory it
+    /// is as before.
+    #[tactic(auto, unfolding(fk_model::specs::Said::effect_of))]
+    pub fn said(
+        &mut self,
+        alloc: Global,
+        ask: &Ask,
+        moment: u64,
+        word: u64,
+    ) -> Result<Reply, AllocError>
+        requires whole { IsBetweenTurns self.old }
+        requires next { self.old.kept.next ≤ greatest_next }
+        requires in_range { IsInRange ask.now }
+        ensures state { OnOk result (self.new ≡ (said self.old ask.now moment word).state) }
+        ensures reply { IfOk result (λ reply. reply ≡ (said self.old ask.now moment word).reply) }
+        ensures err { OnErr result (self.new ≡ self.old) }
+    {
+        let _ = word;
+        if !is_served(moment, ask) {
+            return Ok(not_served(alloc));
+        }
+        match ask {
+            Ask::Push { job } => self.push(alloc, moment, job),
+            Ask::PushBatch { jobs, told } => self.push_all(alloc, moment, jobs.jobs(), told),
+            Ask::Fetch { wid, queues } => self.fetch(alloc, moment, wid, queues),
+            Ask::Ack { jid } => self.ack(alloc, jid),
+            _ => Ok(not_served(alloc)),
+        }
+    }
+
+    // A job is pushed.
+    fn push(&mut self, alloc: Global, moment: u64, job: &Job) -> Result<Reply, AllocError>
+        requires { self.old.kept.next ≤ greatest_next }
+        ensures state { OnOk result
+            (self.new ≡ (kept_and_said self.old (pushed moment self.old.kept job.now) ok).state) }
+        ensures reply { IfOk result (λ reply. reply ≡ ok) }
+        ensures err { OnErr result (self.new ≡ self.old) }
+    {
+        self.kept = self.kept.pushed(alloc, moment, job)?;
+        Ok(Reply::Status(Text::fixed(alloc, b"OK")))
+    }
+
+    // Jobs are pushed.
+    fn push_all(
+        &mut self,
+        alloc: Global,
+        moment: u64,
+        jobs: &Jobs,
+        told: &Text,
+    ) -> Result<Reply, AllocError>
+        requires next { self.old.kept.next ≤ greatest_next }
+        requires jobs { length jobs.now.items < text_limit }
+        ensures state { OnOk result (self.new ≡ (kept_and_said self.old
+            (all_pushed moment self.old.kept jobs.now.items) (Bulk told.now)).state) }
+        ensures reply { IfOk result (λ reply. reply ≡ Bulk told.now) }
+        ensures err { OnErr result (self.new ≡ self.old) }
+    {
+        let told = told.copied()?;
+        self.kept = self.kept.all_pushed(alloc, moment, jobs)?;
+        Ok(Reply::Bulk(told))
+    }
+
+    // A worker is given the first row that waits, if any does.
+    fn fetch(
+        &mut self,
+        alloc: Global,
+        moment: u64,
+        wid: &Text,
+        queues: &Texts,
+    ) -> Result<Reply, AllocError>
+        requires { All (λ filed. HasSpelling (Add (ticket_of filed) (row_of filed))) self.old.kept.rows }
+        ensures state { OnOk result (self.new
+            ≡ (fetch_effect self.old wid.now queues.now moment).state) }
+        ensures reply { IfOk result (λ reply. reply
+            ≡ (fetch_effect self.old wid.now queues.now moment).reply) }
+        ensures err { OnErr result (self.new ≡ self.old) }
+    {
+        if self.is_held_back(wid) {
+            return Ok(Reply::Nil);
+        }
+        let Some(filed) = first_waiting(alloc, &self.kept, queues)? else {
+            return Ok(Reply::Nil);
+        };
+        let text = write_job(alloc, &filed.1.job, &filed.1.stamp)?;
+        self.kept = self.kept.reserved(alloc, moment, wid, filed.0)?;
+        Ok(Reply::Bulk(text))
+    }
+
+    // A job was done.
+    fn ack(&mut self, alloc: Global, jid: &Text) -> Result<Reply, AllocError>
+        ensures state { OnOk result (self.new ≡ (ack_effect self.old jid.now).state) }
+        ensures reply { IfOk result (λ reply. reply ≡ ok) }
+        ensures err { OnErr result (self.new ≡ self.old) }
+    {
+        if let Some(filed) = leased(&self.kept, jid) {
+            self.kept = self.kept.finished(alloc, filed)?;
+        }
+        Ok(Reply::Status(Text::fixed(alloc, b"OK")))
+    }
+}
+
+/// The reply to a request that isn't served yet.
+fn not_served(alloc: Global) -> Reply
+    ensures { result ≡ not_served }
+{
+    Reply::Error(Text::fixed(alloc, b"ERR Not served yet"))
 }
