@@ -4,3 +4,6 @@ pub mod Pushing
 pub mod Finding
 pub mod Later
 pub mod Spelled
+pub mod Moving
+pub mod Closing
+pub mod Adding

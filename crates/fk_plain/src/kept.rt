@@ -85,6 +85,21 @@ impl PlainKept {
         self.failures
     }
 
+    /// The state with these rows, and equal numbers.
+    pub fn with_rows(&self, rows: PlainRows) -> PlainKept
+        ensures rows { result.rows ≡ rows }
+        ensures next { result.next ≡ self.now.next }
+        ensures processed { result.processed ≡ self.now.processed }
+        ensures failures { result.failures ≡ self.now.failures }
+    {
+        PlainKept {
+            rows,
+            next: self.next,
+            processed: self.processed,
+            failures: self.failures,
+        }
+    }
+
     /// An equal state.
     pub fn copied(&self, alloc: Global) -> Result<PlainKept, AllocError>
         ensures { IfOk result (λ copy. copy ≡ self.now) }
