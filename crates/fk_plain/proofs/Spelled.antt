@@ -1,19 +1,17 @@
--- The moments of a row that is fetched can be written, where each row has a spelling.
+-- The moments of a row that is fetched can be written, where those of each row can.
 use Rattle.std.proofs.Common.{◌≡◌, ◌∙◌, ℕ, List, Option, None, Some, Bool, ap, subst, sym}
 use Rattle.std.proofs.lemmas.Bool.{false≢true}
 use Rattle.std.proofs.lemmas.Option.{slice_get_within, get_or_from_slice_get}
 use Rattle.std.proofs.lemmas.List.Folds.{find_at}
-use Rattle.std.specs.Prelude.{All, find, flat_map, IfSome}
+use Rattle.std.specs.Prelude.{All, find, flat_map}
 use Rattle.std.specs.List.{slice_get, position_or_len}
 use Rattle.std.specs.Option.{is_some, option_and_then}
-use Rattle.fk_job.specs.declared.failure.Failure.{Failure}
-use Rattle.fk_job.specs.RowText.{HasFailureMoments, HasMoments}
+use Rattle.fk_job.specs.RowText.{HasMoments}
 use Rattle.fk_model.specs.declared.row.Row.{Row}
-use Rattle.fk_model.specs.declared.move_.Move.TheVariants.{Add}
 use Rattle.fk_model.specs.State.{Kept}
-use Rattle.fk_model.specs.Rows.{ticket_of, row_of, filed_at}
+use Rattle.fk_model.specs.Rows.{row_of, filed_at}
 use Rattle.fk_model.specs.Orders.{queue, ticket_in, first_waiting}
-use Rattle.fk_model.specs.Spellings.{HasSpelling, HasRowSpelling, HasFailureSpelling}
+use Rattle.fk_plain.specs.Condition.{HaveMoments}
 
 -- what holds of each item holds of one that is found
 found : {X : Type 0} (P : X → Type 0) (test : X → Bool) (xs : List X) (x : X)
@@ -29,24 +27,10 @@ looked_up : (P : ℕ × Row → Type 0) (rows : List (ℕ × Row)) (pair : Optio
 looked_up P rows None filed each e = absurd (false≢true (ap is_some e))
 looked_up P rows (Some pair) filed each e = found P _ rows filed each e
 
-failure_moments : (failure : Option Failure) → IfSome failure HasFailureSpelling
-    → IfSome failure HasFailureMoments
-failure_moments None h = tt
-failure_moments (Some failure) h = record { failed_by = h.failed; next = h.next }
-
-row_moments : (row : Row) → HasRowSpelling row → HasMoments row.stamp
-row_moments row h = record {
-  created = h.created;
-  enqueued = h.rest.when;
-  failed = failure_moments row.stamp.failure h.rest.failed;
-}
-
 pub fetched_moments : (all kept : Kept) (names : List (List ℕ)) (filed : ℕ × Row)
-    → All (λ filed. HasSpelling (Add (ticket_of filed) (row_of filed))) all.rows → kept ≡ all
-    → first_waiting kept names ≡ Some filed → HasMoments (row_of filed).stamp
+    → HaveMoments all.rows → kept ≡ all → first_waiting kept names ≡ Some filed
+    → HasMoments (row_of filed).stamp
 fetched_moments all kept names filed each same e =
-    row_moments (row_of filed)
-    (looked_up (λ one. HasSpelling (Add (ticket_of one) (row_of one))) kept.rows
+    looked_up (λ one. HasMoments (row_of one).stamp) kept.rows
     (slice_get (flat_map (queue kept.rows) names) 0) filed
-    (subst (λ k. All (λ one. HasSpelling (Add (ticket_of one) (row_of one))) k.rows) (sym same) each)
-    e).1
+    (subst (λ k. HaveMoments k.rows) (sym same) each) e

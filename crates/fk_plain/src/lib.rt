@@ -2,6 +2,7 @@
 #![tactic(auto)]
 
 mod changes;
+mod condition;
 mod kept;
 mod orders;
 mod rows;
@@ -11,6 +12,7 @@ mod turn;
 mod waiting;
 
 pub use changes::{after_move, after_moves};
+pub use condition::{can_turn, have_moments, jobs_pushed};
 pub use kept::{PlainKept, due_at, pushed_row, reserved_row};
 pub use orders::{comes_before, in_order, with_pair};
 pub use rows::PlainRows;

@@ -1,14 +1,12 @@
-ghost use Rattle.std.specs.Prelude.{◌≡◌, ◌||◌, ◌+◌, ◌<◌, ◌≤◌, length, drop, All, IfOk, OnErr, OnOk};
+ghost use Rattle.std.specs.Prelude.{◌≡◌, ◌||◌, ◌+◌, ◌<◌, ◌^◌, ◌↔◌, length, drop, All, IfOk, IfSome, IsTrue, OnErr, OnOk};
 ghost use Rattle.std.specs.List.{list_any};
 ghost use Rattle.fk_frame.specs.declared.reply.Reply.TheVariants.{Bulk};
-ghost use Rattle.fk_model.specs.declared.move_.Move.TheVariants.{Add};
-ghost use Rattle.fk_model.specs.Limits.{greatest_next, text_limit};
-ghost use Rattle.fk_model.specs.Rows.{ticket_of, row_of};
-ghost use Rattle.fk_model.specs.Spellings.{HasSpelling};
-ghost use Rattle.fk_model.specs.Range.{IsInRange};
-ghost use Rattle.fk_model.specs.Between.{IsBetweenTurns};
+ghost use Rattle.fk_time.specs.Moments.{greatest};
+ghost use Rattle.fk_job.specs.RowText.{HasFailureMoments, HasMoments};
+ghost use Rattle.fk_model.specs.Rows.{row_of};
 ghost use Rattle.fk_model.specs.Requests.{all_pushed, is_later, pushed};
 ghost use Rattle.fk_model.specs.Said.{ack_effect, fetch_effect, is_served, kept_and_said, not_served, ok, said};
+ghost use Rattle.fk_plain.specs.Condition.{CanTurn, HaveMoments, jobs_pushed};
 
 use crate::PlainState;
 use crate::kept::due_at;
@@ -75,9 +73,7 @@ impl PlainState {
         moment: u64,
         word: u64,
     ) -> Result<Reply, AllocError>
-        requires whole { IsBetweenTurns self.old }
-        requires next { self.old.kept.next ≤ greatest_next }
-        requires in_range { IsInRange ask.now }
+        requires { CanTurn self.old ask.now }
         ensures state { OnOk result (self.new ≡ (said self.old ask.now moment word).state) }
         ensures reply { IfOk result (λ reply. reply ≡ (said self.old ask.now moment word).reply) }
         ensures err { OnErr result (self.new ≡ self.old) }
@@ -97,7 +93,7 @@ impl PlainState {
 
     // A job is pushed.
     fn push(&mut self, alloc: Global, moment: u64, job: &Job) -> Result<Reply, AllocError>
-        requires { self.old.kept.next ≤ greatest_next }
+        requires { self.old.kept.next + 1 < 2 ^ 64 }
         ensures state { OnOk result
             (self.new ≡ (kept_and_said self.old (pushed moment self.old.kept job.now) ok).state) }
         ensures reply { IfOk result (λ reply. reply ≡ ok) }
@@ -115,8 +111,7 @@ impl PlainState {
         jobs: &Jobs,
         told: &Text,
     ) -> Result<Reply, AllocError>
-        requires next { self.old.kept.next ≤ greatest_next }
-        requires jobs { length jobs.now.items < text_limit }
+        requires { self.old.kept.next + length jobs.now.items < 2 ^ 64 }
         ensures state { OnOk result (self.new ≡ (kept_and_said self.old
             (all_pushed moment self.old.kept jobs.now.items) (Bulk told.now)).state) }
         ensures reply { IfOk result (λ reply. reply ≡ Bulk told.now) }
@@ -135,7 +130,7 @@ impl PlainState {
         wid: &Text,
         queues: &Texts,
     ) -> Result<Reply, AllocError>
-        requires { All (λ filed. HasSpelling (Add (ticket_of filed) (row_of filed))) self.old.kept.rows }
+        requires { HaveMoments self.old.kept.rows }
         ensures state { OnOk result (self.new
             ≡ (fetch_effect self.old wid.now queues.now moment).state) }
         ensures reply { IfOk result (λ reply. reply

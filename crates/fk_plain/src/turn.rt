@@ -1,9 +1,6 @@
 ghost use Rattle.std.specs.Prelude.{◌≡◌, ◌+◌, ◌<◌, ◌≤◌, ◌^◌, length, IfOk, [], ◌∷◌};
-ghost use Rattle.fk_model.specs.Limits.{greatest_next};
-ghost use Rattle.fk_model.specs.Range.{IsInRange};
-ghost use Rattle.fk_model.specs.Between.{IsBetweenTurns};
 ghost use Rattle.fk_model.specs.Turns.{closed, moves_of, moves_of_push, moves_of_turn, moves_said, totals};
-ghost use Rattle.fk_model.specs.Rows.{ticket_of, row_of};
+ghost use Rattle.fk_plain.specs.Condition.{CanTurn};
 ghost use Rattle.fk_model.specs.declared.ask.Ask.TheVariants as ask;
 
 use crate::{PlainKept, PlainState, first_waiting, is_served, leased, pushed_row, reserved_row};
@@ -20,9 +17,7 @@ pub fn moves_of_turn(
     moment: u64,
     word: u64,
 ) -> Result<Moves, AllocError>
-    requires whole { IsBetweenTurns state.now }
-    requires next { state.now.kept.next ≤ greatest_next }
-    requires in_range { IsInRange ask.now }
+    requires { CanTurn state.now ask.now }
     ensures { IfOk result (λ moves. moves.items ≡ moves_of_turn state.now ask.now moment word) }
 {
     let moves = moves_said(alloc, state, ask, moment, word)?;
@@ -64,8 +59,7 @@ fn moves_said(
     moment: u64,
     word: u64,
 ) -> Result<Moves, AllocError>
-    requires next { state.now.kept.next ≤ greatest_next }
-    requires in_range { IsInRange ask.now }
+    requires { CanTurn state.now ask.now }
     ensures { IfOk result (λ moves. moves.items ≡ moves_said state.now ask.now moment word) }
 {
     let _ = word;
