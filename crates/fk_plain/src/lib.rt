@@ -20,3 +20,6 @@ pub use said::{is_later, is_served};
 pub use state::{PlainState, PlainWorker, is_running};
 pub use turn::{moves_of_turn, totals};
 pub use waiting::{first_waiting, is_working, leased, queue, rank_in, rank_of};
+
+#[cfg(test)]
+mod tests;
