@@ -2,7 +2,7 @@ use super::*;
 use fk_frame::Reply;
 use fk_job::{Job, Jobs};
 use fk_json::{Text, Texts};
-use fk_model::{Ask, Batch, Move, Place, WorkState};
+use fk_model::{Ask, Batch, Place, WorkState};
 use std::alloc::{AllocError, Global};
 use std::process::Abort;
 use std::test::Fail;
@@ -146,15 +146,20 @@ fn a_fetch_is_nil_where_nothing_waits_or_the_worker_is_quiet(rt: HostRuntime) ->
     Ok(())
 }
 
+/// A state with two rows of one jid, which workers have.
+fn two_fetched(rt: &impl Abort, alloc: Global) -> Result<PlainState, AllocError> {
+    let mut state = new_state(alloc)?;
+    expect_ok(rt, alloc, &mut state, &push(alloc), 2)?;
+    expect_ok(rt, alloc, &mut state, &push(alloc), 2)?;
+    asked(rt, alloc, &mut state, &fetch(alloc, b"")?)?;
+    asked(rt, alloc, &mut state, &fetch(alloc, b"")?)?;
+    Ok(state)
+}
+
 #[test]
 fn an_ack_takes_the_least_ticket_of_its_jid(rt: HostRuntime) -> Result<(), Fail> {
     let alloc = rt.alloc();
-    let mut state = new_state(alloc)?;
-    for count in [2, 2] {
-        expect_ok(&rt, alloc, &mut state, &push(alloc), count)?;
-    }
-    asked(&rt, alloc, &mut state, &fetch(alloc, b"")?)?;
-    asked(&rt, alloc, &mut state, &fetch(alloc, b"")?)?;
+    let mut state = two_fetched(&rt, alloc)?;
     expect_ok(&rt, alloc, &mut state, &ack(alloc), 2)?;
     assert_eq!(rt; (stands(&state, 1), stands(&state, 2)), (0, 2));
     expect_ok(&rt, alloc, &mut state, &ack(alloc), 2)?;
@@ -164,55 +169,73 @@ fn an_ack_takes_the_least_ticket_of_its_jid(rt: HostRuntime) -> Result<(), Fail>
     Ok(())
 }
 
-#[test]
-fn a_batch_is_pushed_at_once_unless_a_job_is_due_later(rt: HostRuntime) -> Result<(), Fail> {
-    let alloc = rt.alloc();
-    let mut state = new_state(alloc)?;
+/// Two jobs, none of which is due later.
+fn batch(alloc: Global) -> Result<Ask, AllocError> {
     let mut jobs = Jobs::new(alloc);
     jobs.push(job(alloc, None))?;
     jobs.push(job(alloc, Some(NOW)))?;
-    let batch = Ask::PushBatch {
+    Ok(Ask::PushBatch {
         jobs: Batch::new(jobs),
         told: Text::fixed(alloc, b"{}"),
-    };
-    let (reply, moves) = asked(&rt, alloc, &mut state, &batch)?;
+    })
+}
+
+#[test]
+fn a_batch_is_pushed_at_once(rt: HostRuntime) -> Result<(), Fail> {
+    let alloc = rt.alloc();
+    let mut state = new_state(alloc)?;
+    let (reply, moves) = asked(&rt, alloc, &mut state, &batch(alloc)?)?;
     assert!(rt; is_bulk(&reply, b"{}"));
     assert_eq!(rt; (moves, stands(&state, 1), stands(&state, 2)), (3, 1, 1));
+    Ok(())
+}
+
+/// That a request isn't served yet, and changes nothing of an empty state.
+fn expect_not_served(rt: &impl Abort, alloc: Global, ask: &Ask) -> Result<(), AllocError> {
+    let mut state = new_state(alloc)?;
+    let (reply, moves) = asked(rt, alloc, &mut state, ask)?;
+    assert!(rt; is_not_served(&reply));
+    assert_eq!(rt; (moves, state.kept().next()), (0, 1));
+    Ok(())
+}
+
+#[test]
+fn a_later_job_and_other_requests_are_not_served_yet(rt: HostRuntime) -> Result<(), Fail> {
+    let alloc = rt.alloc();
     let later = Ask::Push {
         job: job(alloc, Some(NOW + 1)),
     };
-    for ask in [&later, &Ask::Tick, &Ask::Flush] {
-        let (reply, moves) = asked(&rt, alloc, &mut state, ask)?;
-        assert!(rt; is_not_served(&reply));
-        assert_eq!(rt; (moves, state.kept().next()), (0, 3));
-    }
+    expect_not_served(&rt, alloc, &later)?;
+    expect_not_served(&rt, alloc, &Ask::Tick)?;
+    expect_not_served(&rt, alloc, &Ask::Flush)?;
     Ok(())
+}
+
+/// Makes a turn, and gives the kept state to which its moves lead.
+fn turned(
+    rt: &impl Abort,
+    alloc: Global,
+    state: &mut PlainState,
+    kept: &PlainKept,
+    ask: &Ask,
+) -> Result<PlainKept, AllocError> {
+    let can = can_turn(state, ask);
+    assert!(rt; can);
+    let moves = moves_of_turn(alloc, state, ask, NOW, 0)?;
+    state.said(alloc, ask, NOW, 0)?;
+    after_moves(alloc, kept, &moves)
 }
 
 #[test]
 fn the_moves_of_a_turn_lead_where_it_does(rt: HostRuntime) -> Result<(), Fail> {
     let alloc = rt.alloc();
     let mut state = new_state(alloc)?;
-    let mut kept = PlainKept::empty(alloc);
-    for ask in [
-        &push(alloc),
-        &push(alloc),
-        &fetch(alloc, b"w")?,
-        &ack(alloc),
-    ] {
-        let can = can_turn(&state, ask);
-        assert!(rt; can);
-        let moves = moves_of_turn(alloc, &state, ask, NOW, 0)?;
-        let last = moves.get(moves.len().saturating_sub(1));
-        assert!(rt; matches!(last, Some(Move::Totals { .. })));
-        kept = after_moves(alloc, &kept, &moves)?;
-        state.said(alloc, ask, NOW, 0)?;
-    }
-    assert_eq!(rt;
-        (kept.next(), kept.processed(), kept.rows().as_slice().len()),
-        (3, 1, 1)
-    );
-    let second = kept.rows().filed_at(2);
-    assert!(rt; matches!(second, Some((2, _))));
+    let kept = PlainKept::empty(alloc);
+    let kept = turned(&rt, alloc, &mut state, &kept, &batch(alloc)?)?;
+    let kept = turned(&rt, alloc, &mut state, &kept, &fetch(alloc, b"w")?)?;
+    let kept = turned(&rt, alloc, &mut state, &kept, &ack(alloc))?;
+    assert_eq!(rt; (kept.next(), kept.processed()), (3, 1));
+    assert_eq!(rt; kept.rows().as_slice().len(), 1);
+    assert!(rt; kept.rows().filed_at(2).is_some());
     Ok(())
 }
