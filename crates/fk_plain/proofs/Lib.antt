@@ -7,3 +7,4 @@ pub mod Spelled
 pub mod Moving
 pub mod Closing
 pub mod Adding
+pub mod Allowing

@@ -3,6 +3,7 @@
 
 mod changes;
 mod condition;
+mod fitting;
 mod kept;
 mod orders;
 mod rows;
@@ -14,6 +15,7 @@ mod waiting;
 
 pub use changes::{after_move, after_moves};
 pub use condition::{can_turn, have_moments, jobs_pushed};
+pub use fitting::{fits, is_allowed};
 pub use kept::{PlainKept, due_at, pushed_row, reserved_row};
 pub use orders::{comes_before, in_order, with_pair};
 pub use rows::PlainRows;
