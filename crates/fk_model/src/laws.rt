@@ -1,13 +1,23 @@
 //! Laws over the definitions of states, turns and histories. Each is the contract of a function that
 //! does nothing.
 
-ghost use Rattle.std.specs.Prelude.{◌≡◌, ◌++◌, ◌↔◌, List, ℕ};
+ghost use Rattle.std.specs.Prelude.{◌≡◌, ◌++◌, ◌↔◌, AllPairs, Bool, List, count_by, false, ℕ};
 ghost use Rattle.fk_model.specs.declared.ask.Ask.{Ask as AnAsk};
 ghost use Rattle.fk_model.specs.declared.entry.Entry.{Entry as AnEntry};
 ghost use Rattle.fk_model.specs.State.{State};
+ghost use Rattle.fk_model.specs.Orders.{comes_before, in_order};
 ghost use Rattle.fk_model.specs.Turns.{turn};
 ghost use Rattle.fk_model.specs.Answers.{IsToldApart};
 ghost use Rattle.fk_model.specs.History.{after, faults_after, IsLegalFrom};
+
+/// Sorting pairs is a sort: no pair comes before one that stands ahead of it, and each is there as
+/// often as it was.
+pub fn pairs_are_sorted()
+    ensures order { (pairs : List (ℕ × ℕ))
+        → AllPairs (λ one other. comes_before other one ≡ false) (in_order pairs) }
+    ensures same { (test : ℕ × ℕ → Bool) (pairs : List (ℕ × ℕ))
+        → count_by test (in_order pairs) ≡ count_by test pairs }
+{}
 
 /// A history that goes on: the state after the whole is that after its second part, from the state
 /// after its first, and so is the count of faults.
