@@ -26,4 +26,6 @@ pub use turn::{moves_of_turn, totals};
 pub use waiting::{first_waiting, is_working, leased, queue, rank_in, rank_of};
 
 #[cfg(test)]
+mod fitting_tests;
+#[cfg(test)]
 mod tests;

@@ -2,23 +2,23 @@ use super::*;
 use fk_frame::Reply;
 use fk_job::{Job, Jobs};
 use fk_json::{Text, Texts};
-use fk_model::{Ask, Batch, Move, Place, WorkState};
+use fk_model::{Ask, Batch, Place, WorkState};
 use std::alloc::{AllocError, Global};
 use std::process::Abort;
 use std::test::Fail;
 
 /// 2023-11-14T22:13:20.000Z.
-const NOW: u64 = 1_700_000_000_000;
+pub(crate) const NOW: u64 = 1_700_000_000_000;
 
 /// A state that has kept nothing, with a quiet worker.
-fn new_state(alloc: Global) -> Result<PlainState, AllocError> {
+pub(crate) fn new_state(alloc: Global) -> Result<PlainState, AllocError> {
     let mut workers = Vec::new(alloc);
     workers.push(PlainWorker::new(Text::fixed(alloc, b"quiet"), WorkState::Quiet, NOW))?;
     Ok(PlainState::of(PlainKept::empty(alloc), workers))
 }
 
 /// A job that is due at a moment.
-fn job(alloc: Global, at: Option<u64>) -> Job {
+pub(crate) fn job(alloc: Global, at: Option<u64>) -> Job {
     Job {
         jid: Text::fixed(alloc, b"abcdefgh"),
         jobtype: Text::fixed(alloc, b"Mail"),
@@ -41,7 +41,7 @@ fn push(alloc: Global) -> Ask {
 }
 
 /// A fetch of the queues `empty` and `default`.
-fn fetch(alloc: Global, wid: &'static [u8]) -> Result<Ask, AllocError> {
+pub(crate) fn fetch(alloc: Global, wid: &'static [u8]) -> Result<Ask, AllocError> {
     let mut queues = Texts::new(alloc);
     queues.push(Text::fixed(alloc, b"empty"))?;
     queues.push(Text::fixed(alloc, b"default"))?;
@@ -58,7 +58,7 @@ fn ack(alloc: Global) -> Ask {
 }
 
 /// What is said, and the number of the turn's moves.
-fn asked(
+pub(crate) fn asked(
     rt: &impl Abort,
     alloc: Global,
     state: &mut PlainState,
@@ -170,7 +170,7 @@ fn an_ack_takes_the_least_ticket_of_its_jid(rt: HostRuntime) -> Result<(), Fail>
 }
 
 /// Two jobs, none of which is due later.
-fn batch(alloc: Global) -> Result<Ask, AllocError> {
+pub(crate) fn batch(alloc: Global) -> Result<Ask, AllocError> {
     let mut jobs = Jobs::new(alloc);
     jobs.push(job(alloc, None))?;
     jobs.push(job(alloc, Some(NOW)))?;
@@ -237,115 +237,5 @@ fn the_moves_of_a_turn_lead_where_it_does(rt: HostRuntime) -> Result<(), Fail> {
     assert_eq!(rt; (kept.next(), kept.processed()), (3, 1));
     assert_eq!(rt; kept.rows().as_slice().len(), 1);
     assert!(rt; kept.rows().filed_at(2).is_some());
-    Ok(())
-}
-
-/// Puts the row of a ticket to a place.
-fn put(ticket: u64, place: Place) -> Move {
-    Move::Put {
-        ticket,
-        enqueued: Some(NOW),
-        failure: None,
-        place,
-    }
-}
-
-fn working(alloc: Global) -> Place {
-    Place::Working {
-        wid: Text::fixed(alloc, b"w"),
-        since: NOW,
-        until: NOW + 1,
-    }
-}
-
-/// A new row at the end of its queue.
-fn add(alloc: Global, ticket: u64, rank: u64) -> Result<Move, AllocError> {
-    let mut row = pushed_row(NOW, ticket, &job(alloc, None))?;
-    row.place = Place::Queued { rank };
-    Ok(Move::Add { ticket, row })
-}
-
-fn totals_of(next: u64) -> Move {
-    Move::Totals {
-        next,
-        processed: 0,
-        failures: 0,
-    }
-}
-
-/// A state with a row that a worker has, under ticket 1, and one in its queue, under ticket 2.
-fn one_fetched(rt: &impl Abort, alloc: Global) -> Result<PlainState, AllocError> {
-    let mut state = new_state(alloc)?;
-    asked(rt, alloc, &mut state, &batch(alloc)?)?;
-    asked(rt, alloc, &mut state, &fetch(alloc, b"")?)?;
-    Ok(state)
-}
-
-/// Whether a move fits that state.
-fn expect_fits(
-    rt: &impl Abort,
-    alloc: Global,
-    step: &Move,
-    wanted: bool,
-) -> Result<(), AllocError> {
-    let state = one_fetched(rt, alloc)?;
-    assert_eq!(rt; fits(alloc, state.kept(), step)?, wanted);
-    Ok(())
-}
-
-#[test]
-fn a_new_row_fits_under_a_new_ticket_at_the_end(rt: HostRuntime) -> Result<(), Fail> {
-    let alloc = rt.alloc();
-    expect_fits(&rt, alloc, &add(alloc, 3, 3)?, true)?;
-    expect_fits(&rt, alloc, &add(alloc, 2, 3)?, false)?;
-    expect_fits(&rt, alloc, &add(alloc, 3, 2)?, false)?;
-    Ok(())
-}
-
-#[test]
-fn a_put_fits_to_a_worker_from_the_front_and_else_from_elsewhere(
-    rt: HostRuntime,
-) -> Result<(), Fail> {
-    let alloc = rt.alloc();
-    expect_fits(&rt, alloc, &put(2, working(alloc)), true)?;
-    expect_fits(&rt, alloc, &put(1, working(alloc)), false)?;
-    expect_fits(&rt, alloc, &put(1, Place::Queued { rank: 3 }), true)?;
-    expect_fits(&rt, alloc, &put(1, Place::Queued { rank: 2 }), false)?;
-    expect_fits(&rt, alloc, &put(2, Place::Dead { until: NOW }), false)?;
-    Ok(())
-}
-
-#[test]
-fn a_put_fits_within_its_bounds_and_to_a_row(rt: HostRuntime) -> Result<(), Fail> {
-    let alloc = rt.alloc();
-    let greatest = 250_000_000_000_000;
-    expect_fits(&rt, alloc, &put(1, Place::Dead { until: greatest }), true)?;
-    expect_fits(
-        &rt,
-        alloc,
-        &put(1, Place::Retry { at: greatest + 1 }),
-        false,
-    )?;
-    expect_fits(&rt, alloc, &put(3, Place::Scheduled { at: NOW }), false)?;
-    Ok(())
-}
-
-#[test]
-fn a_drop_fits_a_row_that_is_not_queued(rt: HostRuntime) -> Result<(), Fail> {
-    let alloc = rt.alloc();
-    expect_fits(&rt, alloc, &Move::Drop { ticket: 1 }, true)?;
-    expect_fits(&rt, alloc, &Move::Drop { ticket: 2 }, false)?;
-    expect_fits(&rt, alloc, &Move::Drop { ticket: 3 }, false)?;
-    expect_fits(&rt, alloc, &Move::DropAll, true)?;
-    Ok(())
-}
-
-#[test]
-fn totals_fit_from_the_next_number_to_its_limit(rt: HostRuntime) -> Result<(), Fail> {
-    let alloc = rt.alloc();
-    expect_fits(&rt, alloc, &totals_of(3), true)?;
-    expect_fits(&rt, alloc, &totals_of(2), false)?;
-    expect_fits(&rt, alloc, &totals_of(4_611_686_018_427_387_904), true)?;
-    expect_fits(&rt, alloc, &totals_of(4_611_686_018_427_387_905), false)?;
     Ok(())
 }
