@@ -116,7 +116,8 @@ fn moves_of_fetch(
     wid: &Text,
     queues: &Texts,
 ) -> Result<Moves, AllocError>
-    ensures { IfOk result (λ moves. moves.items ≡ moves_of state.now (ask.Fetch wid.now queues.now) moment 0) }
+    ensures { IfOk result (λ moves. moves.items
+        ≡ moves_of state.now (ask.Fetch wid.now queues.now) moment 0) }
 {
     let mut moves = Moves::new(alloc);
     if state.is_held_back(wid) {
