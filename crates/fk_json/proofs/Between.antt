@@ -230,9 +230,12 @@ named_left Object done name value [] places mode b object ends is most rest othe
     let front = drop places.name_from done in
     let at = length done in (
       λ (levels, l, (found, spelled, colon)).
-          let e = one_value front found value (subst (λ x. IsString x found) (append-nil front) spelled) is in
-          (levels, l, subst (λ x. ColonLeft (outermost Object levels) (IsValue levels) x places.name_from at at
-          (b ∷ rest) others) e colon),
+          let e = one_value front found value (subst (λ x. IsString x found) (append-nil front) spelled) is in (
+            levels,
+            l,
+            subst (λ x. ColonLeft (outermost Object levels) (IsValue levels) x places.name_from at at
+                (b ∷ rest) others) e colon,
+          ),
       λ (levels, l, colon).
           (levels, l, (value, subst (λ x. IsString x value) (sym (append-nil front)) is, colon)),
     )

@@ -179,9 +179,14 @@ names_left most outer front name places (Array ∷ inner) mode at b text found o
     absurd (no_object object)
 names_left most outer front name places (Object ∷ inner) mode at b text found object quote =
     levelled (suc (length inner)) most (λ levels. (
-      λ (rest, behind, value, p, colon, e).
-          (rest, behind, value,
-          (string_begins rest).0 (value, subst (λ x. IsString (x ∷ rest) value) quote p), colon, e),
+      λ (rest, behind, value, p, colon, e). (
+        rest,
+        behind,
+        value,
+        (string_begins rest).0 (value, subst (λ x. IsString (x ∷ rest) value) quote p),
+        colon,
+        e,
+      ),
       λ (rest, behind, value, q, colon, e).
           let named = (string_begins rest).1 q in
           (rest, behind, named.0, subst (λ x. IsString (x ∷ rest) named.0) (sym quote) named.1, colon, e),

@@ -106,8 +106,8 @@ read_on outer text at found items standing next item l r is adds =
     record {
       within = omega (arith, l);
       stands = subst (λ x. Stands outer x (found ++ items) next) (sym (take_more text at 0 l))
-      (goes_on outer (take at text) found standing (byte_at text at) items next r.stands
-      (leads items (adds_front outer text at item items has adds)));
+          (goes_on outer (take at text) found standing (byte_at text at) items next r.stands
+          (leads items (adds_front outer text at item items has adds)));
     }
 
 pub read_name : (text : List ℕ) (at : ℕ) (found : List (Item Object)) (standing next : Standing)
@@ -146,8 +146,12 @@ read_deep outer text at found standing l r is =
 pub deep_none : {I : Type 0} (IsTextIn : ℕ → List ℕ → List I → Type 0) (text : List ℕ) (at : ℕ) (items : List I)
     → IsTooDeepAt IsTextIn text at → ¬ IsTextIn most_levels text items
 deep_none IsTextIn text at items deep is =
-    deep.too_deep (drop (at + 1) text, items, subst (λ x. IsTextIn most_levels x items)
-    (sym (take-append-drop (at + 1) text)) is)
+    deep.too_deep (
+      drop (at + 1) text,
+      items,
+      subst (λ x. IsTextIn most_levels x items)
+          (sym (take-append-drop (at + 1) text)) is,
+    )
 
 -- ---- the end
 

@@ -350,7 +350,7 @@ first_empty : {O : Type 0} (bracket : Bracket) (levels : ℕ) (note : Item brack
 first_empty bracket levels note Behind at found h =
     let closes = λ (place : ℕ) (rest : List ℕ). Behind place rest found in
     elim h as (λ _. ⊥) [
-      inl p ↦ items_empty bracket levels note Behind at found p
+      | inl p ↦ items_empty bracket levels note Behind at found p
       | inr p ↦ byte_nil closes (closing bracket) at ((spaced_nil (ByteThen (closing bracket) closes) at).0 p)
     ]
 

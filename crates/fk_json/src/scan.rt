@@ -10,8 +10,8 @@ ghost use Rattle.fk_json.specs.declared.member.Member as declared_member;
 ghost use Rattle.fk_json.specs.declared.mode.Bracket.TheVariants.{Array, Object};
 ghost use Rattle.fk_json.specs.declared.span.Span as declared_span;
 
-use crate::mode::Bracket;
 use crate::cursor::{Next, first_cursor, next_found};
+use crate::mode::Bracket;
 use crate::standing::{Found, Places};
 use crate::{JsonFault, Member, Members, Span, Spans, Text, string_value};
 use std::alloc::{AllocError, Global};
