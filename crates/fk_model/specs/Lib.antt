@@ -1,3 +1,4 @@
 pub mod Commands
+pub mod Payloads
 pub mod Script
 pub mod Advance
