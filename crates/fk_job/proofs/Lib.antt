@@ -1,2 +1,4 @@
 pub mod Strings
 pub mod Pushing
+pub mod FieldsDecided
+pub mod Decided
