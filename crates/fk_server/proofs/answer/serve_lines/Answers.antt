@@ -22,14 +22,13 @@ lines-preserved g c =
     answers_line _ _ _ c.in-Whole.line c.lines.invariant first
     (rw c.bytes.ensures at c.in_ok-serve_line-in-Whole.ensures.phase)
     (rw c.bytes.ensures at c.in_ok-serve_line-in-Whole.ensures.ok)
-    (rw c.bytes.ensures at c.in_ok-serve_line-in-Whole.ensures.keeps)
 
 pub returns-in-TooLong-clause-ok : goal.returns-in-TooLong-clause-ok
 returns-in-TooLong-clause-ok g c =
     let long : HasLongLine c.lines.lines c.next.new.self = rw c.in-TooLong.is at c.in_ok-next.ensures.ok in
     let going : c.lines.phase ≢ Over = search rules in
     answers_long_line c.end_at_long_line.result _ _ _ c.lines.invariant long going
-    c.end_at_long_line.ensures.phase c.end_at_long_line.ensures.ok c.end_at_long_line.ensures.keeps
+    c.end_at_long_line.ensures.phase c.end_at_long_line.ensures.ok
 
 pub returns-in-TooLong-clause-err : goal.returns-in-TooLong-clause-err
 returns-in-TooLong-clause-err g c =
