@@ -140,25 +140,24 @@ ends_spent first now phase lines count going full stands = (
 pub ends_at_read : (first now new : Setting) (phase : Phase) (lines : List ℕ) (count : ℕ) → phase ≢ Over → count < TAKEN_MAX
     → Stands first now phase lines count → new.left ≡ now.left → new.held ≡ now.held → new.kept ≡ now.kept
     → Rose now.read_faults new.read_faults → IsSession ReadFault first new
-ends_at_read first now new phase lines count going room stands left held kept rose =
-    (
-      stands.taken,
-      stands.items,
-      output stands.items,
-      record {
-        script = script_so_far first now phase lines count stands;
-        took = rw left stands.took;
-        gained = rw held stands.gained;
-        within = let counted = stands.counted in let within = stands.within in omega arith;
-        prompt = stands.prompt;
-        outcome = (
-          record { replies = refl; kept = kept ∙ stands.keeps },
-          not_over stands.taken stands.items phase lines stands.advances stands.idle going,
-          (let counted = stands.counted in omega arith),
-          on_then_rose first.read_faults now.read_faults new.read_faults stands.reads_later rose,
-        );
-      },
-    )
+ends_at_read first now new phase lines count going room stands left held kept rose = (
+  stands.taken,
+  stands.items,
+  output stands.items,
+  record {
+    script = script_so_far first now phase lines count stands;
+    took = rw left stands.took;
+    gained = rw held stands.gained;
+    within = let counted = stands.counted in let within = stands.within in omega arith;
+    prompt = stands.prompt;
+    outcome = (
+      record { replies = refl; kept = kept ∙ stands.keeps },
+      not_over stands.taken stands.items phase lines stands.advances stands.idle going,
+      (let counted = stands.counted in omega arith),
+      on_then_rose first.read_faults now.read_faults new.read_faults stands.reads_later rose,
+    );
+  },
+)
 
 -- what is at its end stays there where nothing was taken
 at_end_still : (before after : Option (List ℕ)) → Took before [] after → IsAtEnd before → IsAtEnd after
@@ -201,7 +200,7 @@ pub stands_on : (first now new : Setting) (phase new_phase : Phase) (lines new_l
 stands_on first now new phase new_phase lines new_lines piece count new_count going stands took short counted within answers idle later =
     let gives = answers.gives in
     let whole = ap (λ more. greeting ++ more) (replies-append stands.items answers.items)
-        ∙ sym (append_assoc greeting (replies stands.items) (replies answers.items)) in
+    ∙ sym (append_assoc greeting (replies stands.items) (replies answers.items)) in
     record {
       taken = stands.taken ++ piece;
       items = stands.items ++ answers.items;
@@ -322,7 +321,7 @@ ends_at_line laws ended first now new phase lines piece count going stands took 
     let behind = left.0 in
     let stops = stopped.stops in
     let script = begins_script (stands.taken ++ piece) (stands.items ++ stopped.items) behind stopped.phase stopped.rest
-        (joined (fed piece stands.advances) stopped.advances) left.1 in
+    (joined (fed piece stands.advances) stopped.advances) left.1 in
     let kept = kept_of_due first now new stands.items stopped.items behind stops.part stands.keeps stops.so_far in
     ends_cut ended first now new phase lines piece stops.part count stopped.items behind going stands took short within script kept stops.stops
 

@@ -1,8 +1,9 @@
 -- What lines give: replies that are written and jobs that are kept, whole or up to where a step gives
 -- up.
-use Rattle.std.proofs.Common.{◌≡◌, ℕ, List, [], ◌∷◌, ◌++◌, refl, ap, sym, ◌∙◌, append_assoc}
+use Rattle.std.proofs.Common.{◌≡◌, ℕ, List, [], ◌∷◌, ◌++◌, Result, Ok, Err, refl, ap, sym, ◌∙◌, append_assoc}
 use Rattle.std.proofs.lemmas.List.{append-nil}
 use Rattle.std.proofs.lemmas.Grind.{flat_map-append}
+use Rattle.std.specs.Result.{IfErr}
 use Rattle.fk_io.specs.declared.fault.Ended.{Ended}
 use Rattle.fk_io.specs.declared.fault.Ended.TheVariants.{NoMemory}
 use Rattle.fk_frame.specs.Replies.{reply_bytes}
@@ -87,6 +88,13 @@ stops_at_reply ended old new given writing keeps = record {
         (stopped_begins ended old.out new.out (reply_bytes given.reply) writing.part writing.stops);
   };
 }
+
+-- and that wherever the writing gave up
+pub reply_stops : (r : Result (Unit {0}) Ended) (old new : Results) (given : Given)
+    → IfErr r (λ ended. StopsWriting ended old.out new.out (reply_bytes given.reply))
+    → new.kept ≡ old.kept ++ given.kept → IfErr r (λ ended. StopsGiving ended old new (given ∷ []))
+reply_stops (Ok x) old new given writing keeps = tt
+reply_stops (Err ended) old new given writing keeps = stops_at_reply ended old new given writing keeps
 
 -- an item's jobs were kept, and then memory ran out
 pub starved_at_reply : (old new : Results) (given : Given) → new.out ≡ old.out → new.kept ≡ old.kept ++ given.kept

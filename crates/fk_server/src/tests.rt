@@ -152,10 +152,7 @@ fn each_line_has_its_reply(rt: HostRuntime) -> Result<(), Fail> {
             b"-ERR Unknown command\r\n".as_slice(),
         ),
         (HELLO, b"-ERR Not served yet\r\n".as_slice()),
-        (
-            b"PUSH {}\r\n".as_slice(),
-            b"-ERR No jid\r\n".as_slice(),
-        ),
+        (b"PUSH {}\r\n".as_slice(), b"-ERR No jid\r\n".as_slice()),
         (PUSH, b"+OK\r\n".as_slice()),
         (b"END now\r\n".as_slice(), b"".as_slice()),
         (PUSH, b"".as_slice()),

@@ -2,11 +2,16 @@ use Rattle.std.proofs.Common.{◌≢◌, rules}
 use Rattle.std.proofs.lemmas.Result.{err_from_is_err_and}
 use Rattle.fk_frame.specs.Reading.{IsFirstLine, HasLongLine}
 use Rattle.fk_model.specs.declared.item.Phase.TheVariants.{Over}
-use Rattle.fk_server.proofs.Answering.{answers_nothing, answers_line, answers_long_line, stops_at_line, stops_at_long_line}
+use Rattle.fk_server.proofs.Answering.{answers_nothing, answers_line, answers_long_line, starved_between, stops_at_line, stops_at_long_line}
 use Rattle.fk_server.proofs.answer.serve_lines.Goals as goal
 
 pub lines-init : goal.lines-init
 lines-init g c = answers_nothing _
+
+pub returns-in_err-next-clause-err : goal.returns-in_err-next-clause-err
+returns-in_err-next-clause-err g c =
+    let p = err_from_is_err_and c.from_residual.result c.from_residual.ensures.1 in
+    rw (p.1, p.2) (starved_between _ _ c.lines.invariant)
 
 pub returns-in_err-serve_line-in-Whole-clause-err : goal.returns-in_err-serve_line-in-Whole-clause-err
 returns-in_err-serve_line-in-Whole-clause-err g c =
