@@ -13,7 +13,8 @@ use Rattle.fk_job.specs.declared.fault.JobFault.TheVariants.{NoJid, ShortJid, No
 use Rattle.fk_job.specs.Members.{body_of, given_value}
 use Rattle.fk_job.specs.Fields.{least_jid_length}
 use Rattle.fk_job.specs.JobText.{HasArgs, HasAt, HasFault, HasJid, HasLongJid, HasQueue, HasReserve, HasRetry, HasType, IsFirstFault, IsJob, IsJobOf}
-use Rattle.fk_job.proofs.FieldsDecided.{array_there, at_one, at_there, long_string, queue_one, queue_there, reserve_one, reserve_there, retry_one, retry_there, string_one, string_there}
+use Rattle.fk_job.proofs.FieldsDecided.{at_one, at_there, queue_one, queue_there, reserve_one, reserve_there, retry_one, retry_there}
+use Rattle.fk_job.proofs.Present.{array_there, long_string, string_one, string_there}
 
 -- ---- what has to hold of the members
 
@@ -28,7 +29,8 @@ record Decisions (text : List ℕ) (members : List Member) : Type 0 where
   retried : Decision (HasRetry text members)
   due : Decision (HasAt text members)
 
-decisions : (text : List ℕ) (members : List Member) → IsObjectText most_levels text members → Decisions text members
+decisions : (text : List ℕ) (members : List Member) → IsObjectText most_levels text members
+    → Decisions text members
 decisions text members is =
     let long = long_string text members (codes "jid") least_jid_length in
     let typed = both_decided long (long_string text members (codes "jobtype") 1) in
@@ -57,12 +59,18 @@ first_fault : (text : List ℕ) (members : List Member) → IsObjectText most_le
     → Decision (HasRetry text members) → Decision (HasAt text members) → Outcome text members
 first_fault text members is (inr none) _ _ _ _ _ _ _ = inr (NoJid, (members, is, none))
 first_fault text members is (inl jid) (inr none) _ _ _ _ _ _ = inr (ShortJid, (members, is, (jid, none)))
-first_fault text members is (inl _) (inl long) (inr none) _ _ _ _ _ = inr (NoType, (members, is, (long, none)))
-first_fault text members is (inl _) (inl _) (inl typed) (inr none) _ _ _ _ = inr (NoArgs, (members, is, (typed, none)))
-first_fault text members is (inl _) (inl _) (inl _) (inl arguments) (inr none) _ _ _ = inr (BadQueue, (members, is, (arguments, none)))
-first_fault text members is (inl _) (inl _) (inl _) (inl _) (inl queued) (inr none) _ _ = inr (BadReserve, (members, is, (queued, none)))
-first_fault text members is (inl _) (inl _) (inl _) (inl _) (inl _) (inl reserved) (inr none) _ = inr (BadRetry, (members, is, (reserved, none)))
-first_fault text members is (inl _) (inl _) (inl _) (inl _) (inl _) (inl _) (inl retried) (inr none) = inr (BadAt, (members, is, (retried, none)))
+first_fault text members is (inl _) (inl long) (inr none) _ _ _ _ _ =
+    inr (NoType, (members, is, (long, none)))
+first_fault text members is (inl _) (inl _) (inl typed) (inr none) _ _ _ _ =
+    inr (NoArgs, (members, is, (typed, none)))
+first_fault text members is (inl _) (inl _) (inl _) (inl arguments) (inr none) _ _ _ =
+    inr (BadQueue, (members, is, (arguments, none)))
+first_fault text members is (inl _) (inl _) (inl _) (inl _) (inl queued) (inr none) _ _ =
+    inr (BadReserve, (members, is, (queued, none)))
+first_fault text members is (inl _) (inl _) (inl _) (inl _) (inl _) (inl reserved) (inr none) _ =
+    inr (BadRetry, (members, is, (reserved, none)))
+first_fault text members is (inl _) (inl _) (inl _) (inl _) (inl _) (inl _) (inl retried) (inr none) =
+    inr (BadAt, (members, is, (retried, none)))
 first_fault text members is (inl _) (inl _) (inl _) (inl _) (inl _) (inl _) (inl _) (inl due) = inl due
 
 -- what holds of the members makes a job
@@ -125,12 +133,14 @@ by_members text members is =
 
 by_object : (text : List ℕ)
     → ((members : List Member) × IsObjectText most_levels text members)
-    ⊎ (((at : ℕ) × FailsAt IsObjectText text at) ⊎ ((at : ℕ) × IsTooDeepAt IsObjectText text at)) → Decided text
+    ⊎ (((at : ℕ) × FailsAt IsObjectText text at) ⊎ ((at : ℕ) × IsTooDeepAt IsObjectText text at))
+    → Decided text
 by_object text (inl (members, is)) = by_members text members is
 by_object text (inr (inl (at, fails))) = inr (Syntax at, fails)
 by_object text (inr (inr (at, deep))) = inr (TooDeep at, deep)
 
-pub job_decided : (text : List ℕ) → ((job : Job) × IsJobOf text job) ⊎ ((fault : JobFault) × HasFault text fault)
+pub job_decided : (text : List ℕ)
+    → ((job : Job) × IsJobOf text job) ⊎ ((fault : JobFault) × HasFault text fault)
 job_decided text = by_object text (object_decided text)
 
 -- ---- one job
@@ -147,8 +157,9 @@ job_with jid jobtype queue retry reserve_for at has_created body = record {
   body = body;
 }
 
-jobs_with : {a b c d e f : List ℕ} {m n : ℤ} {k l : ℕ} {o p : Option ℕ} {s t : Bool} {x y : List ℕ} → a ≡ b → c ≡ d
-    → e ≡ f → m ≡ n → k ≡ l → o ≡ p → s ≡ t → x ≡ y → job_with a c e m k o s x ≡ job_with b d f n l p t y
+jobs_with : {a b c d e f : List ℕ} {m n : ℤ} {k l : ℕ} {o p : Option ℕ} {s t : Bool} {x y : List ℕ}
+    → a ≡ b → c ≡ d → e ≡ f → m ≡ n → k ≡ l → o ≡ p → s ≡ t → x ≡ y
+    → job_with a c e m k o s x ≡ job_with b d f n l p t y
 jobs_with jid jobtype queue retry reserve at created body =
     rw (jid, jobtype, queue, retry, reserve, at, created, body) refl
 

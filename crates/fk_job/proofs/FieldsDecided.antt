@@ -1,136 +1,19 @@
--- Each field of a job is there as it has to be, or it isn't; and where it is, it is one.
-use Rattle.std.proofs.Common.{◌≡◌, ◌≢◌, ◌⊎◌, inl, inr, ℕ, zero, suc, ◌^◌, ◌<◌, ◌≤◌, ℤ, pos, negsuc, ◌≤ℤ◌, FitsSigned, Bool, true, false, cond, List, [], ◌∷◌, ◌++◌, length, reverse, find, Option, None, Some, MatchOption, IfSome, option_map, codes, refl, sym, ap, subst, ◌∙◌, arith}
+-- Each field of a job that has a default is as it has to be, or it isn't; and where it is, it is one.
+use Rattle.std.proofs.Common.{◌≡◌, ◌≢◌, inl, inr, ℕ, ◌^◌, ◌≤◌, ℤ, pos, negsuc, ◌≤ℤ◌, FitsSigned, Bool, true, false, List, [], ◌∷◌, Option, None, Some, MatchOption, codes, refl, sym, ap, subst, ◌∙◌, arith}
 use Rattle.std.specs.Int.{w64}
-use Rattle.std.specs.List.{AllByRecursion, AllPass, list_all}
-use Rattle.std.proofs.lemmas.Bool.{cases_Bool, cases_eq, cases_lt, false≢true}
-use Rattle.std.proofs.lemmas.List.{reverse-append}
+use Rattle.std.specs.List.{list_all}
+use Rattle.std.proofs.lemmas.Bool.{cases_Bool, cases_lt, false≢true}
 use Rattle.std.proofs.lemmas.List.Sums.{AllPass-from_list_all, list_all-from_AllPass}
 use Rattle.fk_json.specs.String.{IsString}
 use Rattle.fk_json.specs.Number.{IsInteger, integer_of, is_integer}
-use Rattle.fk_json.specs.Json.{IsObjectText, IsValue}
-use Rattle.fk_json.specs.Members.{IsMemberIn}
 use Rattle.fk_json.specs.declared.member.Member.{Member}
 use Rattle.fk_json.proofs.Decided.{string_decided}
 use Rattle.fk_json.proofs.Integers.{integer_from_test, test_from_integer}
-use Rattle.fk_json.proofs.MemberPlaces.{members_in}
-use Rattle.fk_json.proofs.Parts.{head_of}
 use Rattle.fk_json.proofs.Strings.{one_value}
-use Rattle.fk_json.proofs.Values.{value_array, value_empty, value_flat}
-use Rattle.fk_time.specs.Reading.{ReadsAs}
-use Rattle.fk_time.proofs.Decided.{Decision, moment_decided, most_decided, signed_decided}
+use Rattle.fk_time.proofs.Decided.{Decision, moment_decided, signed_decided}
 use Rattle.fk_time.proofs.Forms.{reads_one}
-use Rattle.fk_job.specs.Members.{is_named, sent_value, value_of, given_value}
-use Rattle.fk_job.specs.Fields.{IsArrayValue, IsAt, IsInteger64, IsMomentOf, IsQueue, IsQueueNamed, IsReserve, IsRetry, HasArray, HasString, default_queue, default_reserve, default_retry, is_queue_byte, most_reserve, reserve_seconds, retries}
-
--- ---- strings
-
-abbrev StringIn : Option (List ℕ) → List ℕ → Type 0
-StringIn o decoded = MatchOption o ⊥ (λ value. IsString value decoded)
-
-string_in : (o : Option (List ℕ)) → Decision ((decoded : List ℕ) × StringIn o decoded)
-string_in None = inr (λ h. h.1)
-string_in (Some value) = elim (string_decided value) [ inl is ↦ inl is | inr none ↦ inr (λ h. none h.0 h.1) ]
-
-pub string_there : (text : List ℕ) (members : List Member) (name : List ℕ)
-    → Decision ((decoded : List ℕ) × HasString text members name decoded)
-string_there text members name = string_in (value_of text members name)
-
-one_string_in : (o : Option (List ℕ)) (a b : List ℕ) → StringIn o a → StringIn o b → a ≡ b
-one_string_in None a b h k = absurd h
-one_string_in (Some value) a b h k = one_value value a b h k
-
-pub string_one : (text : List ℕ) (members : List Member) (name a b : List ℕ)
-    → HasString text members name a → HasString text members name b → a ≡ b
-string_one text members name a b = one_string_in (value_of text members name) a b
-
--- a string of at least so many bytes
-abbrev LongString : List ℕ → List Member → List ℕ → ℕ → Type 0
-LongString text members name least =
-    (decoded : List ℕ) × HasString text members name decoded × (least ≤ length decoded)
-
-by_length : (text : List ℕ) (members : List Member) (name decoded : List ℕ) (least : ℕ)
-    → HasString text members name decoded → Decision (least ≤ length decoded)
-    → Decision (LongString text members name least)
-by_length text members name decoded least is (inl long) = inl (decoded, is, long)
-by_length text members name decoded least is (inr short) =
-    inr (λ (other, also, long). short (subst (λ l. least ≤ length l)
-    (string_one text members name other decoded also is) long))
-
-by_string : (text : List ℕ) (members : List Member) (name : List ℕ) (least : ℕ)
-    → Decision ((decoded : List ℕ) × HasString text members name decoded)
-    → Decision (LongString text members name least)
-by_string text members name least (inl (decoded, is)) =
-    by_length text members name decoded least is (most_decided least (length decoded))
-by_string text members name least (inr none) = inr (λ (decoded, is, long). none (decoded, is))
-
-pub long_string : (text : List ℕ) (members : List Member) (name : List ℕ) (least : ℕ)
-    → Decision ((decoded : List ℕ) × HasString text members name decoded × (least ≤ length decoded))
-long_string text members name least = by_string text members name least (string_there text members name)
-
--- ---- arrays
-
-all_append : {X : Type 0} (P : X → Type 0) (xs ys : List X) → AllByRecursion P xs → AllByRecursion P ys
-    → AllByRecursion P (xs ++ ys)
-all_append P [] ys h k = k
-all_append P (x ∷ xs) ys h k = (h.0, all_append P xs ys h.1 k)
-
-all_reverse : {X : Type 0} (P : X → Type 0) (xs : List X) → AllByRecursion P xs
-    → AllByRecursion P (reverse xs)
-all_reverse P [] h = tt
-all_reverse P (x ∷ xs) h =
-    subst (AllByRecursion P) (sym (reverse-append (x ∷ []) xs))
-    (all_append P (reverse xs) (x ∷ []) (all_reverse P xs h.1) (h.0, tt))
-
-found_first : {X : Type 0} (P : X → Type 0) (test : Bool) (x : X) (o : Option X) → P x → IfSome o P
-    → IfSome (cond test (Some x) o) P
-found_first P true x o h k = h
-found_first P false x o h k = k
-
-found_all : {X : Type 0} (P : X → Type 0) (p : X → Bool) (xs : List X) → AllByRecursion P xs
-    → IfSome (find p xs) P
-found_all P p [] h = tt
-found_all P p (x ∷ xs) h = found_first P (p x) x (find p xs) h.0 (found_all P p xs h.1)
-
-value_there : (levels : ℕ) (text : List ℕ) (o : Option Member) → IfSome o (IsMemberIn levels text)
-    → IfSome (option_map (sent_value text) o) (IsValue levels)
-value_there levels text None h = tt
-value_there levels text (Some member) h = h.valued
-
--- what a member has is a value
-pub valued : (levels : ℕ) (text : List ℕ) (members : List Member) (name : List ℕ)
-    → IsObjectText (suc levels) text members → IfSome (value_of text members name) (IsValue levels)
-valued levels text members name is =
-    value_there levels text (find (is_named name) (reverse members))
-    (found_all (IsMemberIn levels text) (is_named name) (reverse members)
-    (all_reverse (IsMemberIn levels text) members (members_in levels text members is)))
-
-begins_array : (levels : ℕ) (rest : List ℕ) → IsValue levels (91 ∷ rest) → IsArrayValue (91 ∷ rest)
-begins_array zero rest value = absurd ((value_flat rest).0 value)
-begins_array (suc levels) rest value =
-    let (elements, array) = (value_array levels rest).0 value in
-    (levels, elements, array)
-
-by_bracket : (levels b : ℕ) (rest : List ℕ) → IsValue levels (b ∷ rest) → (b ≡ 91) ⊎ (b ≢ 91)
-    → Decision (IsArrayValue (b ∷ rest))
-by_bracket levels b rest value (inl e) =
-    inl (subst (λ x. IsArrayValue (x ∷ rest)) (sym e)
-    (begins_array levels rest (subst (λ x. IsValue levels (x ∷ rest)) e value)))
-by_bracket levels b rest value (inr other) =
-    inr (λ (depth, elements, (inner, items, whole)). other (head_of whole))
-
-array_value : (levels : ℕ) (value : List ℕ) → IsValue levels value → Decision (IsArrayValue value)
-array_value levels [] is = absurd (value_empty levels is)
-array_value levels (b ∷ rest) is = by_bracket levels b rest is (cases_eq b 91)
-
-array_in : (levels : ℕ) (o : Option (List ℕ)) → IfSome o (IsValue levels)
-    → Decision (MatchOption o ⊥ IsArrayValue)
-array_in levels None h = inr (λ none. none)
-array_in levels (Some value) h = array_value levels value h
-
-pub array_there : (levels : ℕ) (text : List ℕ) (members : List Member) (name : List ℕ)
-    → IsObjectText (suc levels) text members → Decision (HasArray text members name)
-array_there levels text members name is =
-    array_in levels (value_of text members name) (valued levels text members name is)
+use Rattle.fk_job.specs.Members.{given_value}
+use Rattle.fk_job.specs.Fields.{IsAt, IsInteger64, IsMomentOf, IsQueue, IsQueueNamed, IsReserve, IsRetry, default_queue, default_reserve, default_retry, is_queue_byte, most_reserve, reserve_seconds, retries}
 
 -- ---- fields with a default
 
@@ -138,7 +21,8 @@ array_there levels text members name is =
 abbrev Given : {X : Type 0} → X → (List ℕ → X → Type 0) → Option (List ℕ) → X → Type 0
 Given usual Says o x = MatchOption o (x ≡ usual) (λ value. Says value x)
 
-given_decided : {X : Type 0} (usual : X) (Says : List ℕ → X → Type 0) → ((value : List ℕ) → Decision ((x : X) × Says value x))
+given_decided : {X : Type 0} (usual : X) (Says : List ℕ → X → Type 0)
+    → ((value : List ℕ) → Decision ((x : X) × Says value x))
     → (o : Option (List ℕ)) → Decision ((x : X) × Given usual Says o x)
 given_decided usual Says says None = inl (usual, refl)
 given_decided usual Says says (Some value) = says value
@@ -147,8 +31,8 @@ given_decided usual Says says (Some value) = says value
 abbrev SaysOne : {X : Type 0} → (List ℕ → X → Type 0) → Type 0
 SaysOne {X} Says = (value : List ℕ) (x y : X) → Says value x → Says value y → x ≡ y
 
-given_one : {X : Type 0} (usual : X) (Says : List ℕ → X → Type 0) → SaysOne Says → (o : Option (List ℕ)) (x y : X)
-    → Given usual Says o x → Given usual Says o y → x ≡ y
+given_one : {X : Type 0} (usual : X) (Says : List ℕ → X → Type 0) → SaysOne Says
+    → (o : Option (List ℕ)) (x y : X) → Given usual Says o x → Given usual Says o y → x ≡ y
 given_one usual Says one None x y h k = h ∙ sym k
 given_one usual Says one (Some value) x y h k = one value x y h k
 
@@ -160,9 +44,11 @@ by_decoded : {X : Type 0} (Says : List ℕ → X → Type 0) (value decoded : Li
     → Decision ((x : X) × Says decoded x) → Decision ((x : X) × Decoded Says value x)
 by_decoded Says value decoded is (inl (x, says)) = inl (x, (decoded, is, says))
 by_decoded Says value decoded is (inr none) =
-    inr (λ (x, (other, also, says)). none (x, subst (λ l. Says l x) (one_value value other decoded also is) says))
+    inr (λ (x, (other, also, says)).
+        none (x, subst (λ l. Says l x) (one_value value other decoded also is) says))
 
-decoded_decided : {X : Type 0} (Says : List ℕ → X → Type 0) → ((decoded : List ℕ) → Decision ((x : X) × Says decoded x))
+decoded_decided : {X : Type 0} (Says : List ℕ → X → Type 0)
+    → ((decoded : List ℕ) → Decision ((x : X) × Says decoded x))
     → (value : List ℕ) → Decision ((x : X) × Decoded Says value x)
 decoded_decided Says says value =
     elim (string_decided value) [
@@ -180,7 +66,8 @@ by_bytes : (first : ℕ) (name : List ℕ) → (good : Bool) → list_all is_que
     → Decision ((queue : List ℕ) × IsQueueNamed (first ∷ name) queue)
 by_bytes first name true e = inl (first ∷ name, (refl, AllPass-from_list_all is_queue_byte (first ∷ name) e))
 by_bytes first name false e =
-    inr (λ (queue, (same, good)). false≢true (sym e ∙ list_all-from_AllPass is_queue_byte (first ∷ name) good))
+    inr (λ (queue, (same, good)).
+        false≢true (sym e ∙ list_all-from_AllPass is_queue_byte (first ∷ name) good))
 
 queue_named : (name : List ℕ) → Decision ((queue : List ℕ) × IsQueueNamed name queue)
 queue_named [] = inl (default_queue, refl)
@@ -190,7 +77,8 @@ queue_named_one : SaysOne IsQueueNamed
 queue_named_one [] x y h k = h ∙ sym k
 queue_named_one (first ∷ name) x y h k = h.0 ∙ sym k.0
 
-pub queue_there : (text : List ℕ) (members : List Member) → Decision ((queue : List ℕ) × IsQueue text members queue)
+pub queue_there : (text : List ℕ) (members : List Member)
+    → Decision ((queue : List ℕ) × IsQueue text members queue)
 queue_there text members =
     given_decided default_queue (Decoded IsQueueNamed) (decoded_decided IsQueueNamed queue_named)
     (given_value text members (codes "queue"))
@@ -198,7 +86,8 @@ queue_there text members =
 pub queue_one : (text : List ℕ) (members : List Member) (a b : List ℕ) → IsQueue text members a
     → IsQueue text members b → a ≡ b
 queue_one text members a b =
-    given_one default_queue (Decoded IsQueueNamed) (decoded_one IsQueueNamed queue_named_one) (given_value text members (codes "queue")) a b
+    given_one default_queue (Decoded IsQueueNamed) (decoded_one IsQueueNamed queue_named_one)
+    (given_value text members (codes "queue")) a b
 
 -- ---- the moment
 
@@ -217,12 +106,14 @@ moment_of_one (first ∷ text) x y (m, reads, is) (n, also, was) =
 
 pub at_there : (text : List ℕ) (members : List Member) → Decision ((at : Option ℕ) × IsAt text members at)
 at_there text members =
-    given_decided None (Decoded IsMomentOf) (decoded_decided IsMomentOf moment_of_text) (given_value text members (codes "at"))
+    given_decided None (Decoded IsMomentOf) (decoded_decided IsMomentOf moment_of_text)
+    (given_value text members (codes "at"))
 
-pub at_one : (text : List ℕ) (members : List Member) (a b : Option ℕ) → IsAt text members a → IsAt text members b
-    → a ≡ b
+pub at_one : (text : List ℕ) (members : List Member) (a b : Option ℕ) → IsAt text members a
+    → IsAt text members b → a ≡ b
 at_one text members a b =
-    given_one None (Decoded IsMomentOf) (decoded_one IsMomentOf moment_of_one) (given_value text members (codes "at")) a b
+    given_one None (Decoded IsMomentOf) (decoded_one IsMomentOf moment_of_one)
+    (given_value text members (codes "at")) a b
 
 -- ---- numbers
 
@@ -255,13 +146,15 @@ integer64_one value x y h k = h.counted ∙ sym k.counted
 
 abbrev SaysReserve : List ℕ → ℕ → Type 0
 SaysReserve value seconds =
-    (number : ℤ) × IsInteger64 value number × (number ≤ℤ pos most_reserve) × (seconds ≡ reserve_seconds number)
+    (number : ℤ) × IsInteger64 value number × (number ≤ℤ pos most_reserve)
+    × (seconds ≡ reserve_seconds number)
 
 by_most : (value : List ℕ) (number : ℤ) → IsInteger64 value number → Decision (number ≤ℤ pos most_reserve)
     → Decision ((seconds : ℕ) × SaysReserve value seconds)
 by_most value number is (inl below) = inl (reserve_seconds number, (number, is, below, refl))
 by_most value number is (inr above) =
-    inr (λ (seconds, (other, also, below, e)). above (subst (λ z. z ≤ℤ pos most_reserve) (integer64_one value other number also is) below))
+    inr (λ (seconds, (other, also, below, e)).
+        above (subst (λ z. z ≤ℤ pos most_reserve) (integer64_one value other number also is) below))
 
 reserve_says : (value : List ℕ) → Decision ((seconds : ℕ) × SaysReserve value seconds)
 reserve_says value =
@@ -274,12 +167,16 @@ reserve_says_one : SaysOne SaysReserve
 reserve_says_one value x y (m, is, below, e) (n, also, under, g) =
     e ∙ ap reserve_seconds (integer64_one value m n is also) ∙ sym g
 
-pub reserve_there : (text : List ℕ) (members : List Member) → Decision ((seconds : ℕ) × IsReserve text members seconds)
-reserve_there text members = given_decided default_reserve SaysReserve reserve_says (given_value text members (codes "reserve_for"))
+pub reserve_there : (text : List ℕ) (members : List Member)
+    → Decision ((seconds : ℕ) × IsReserve text members seconds)
+reserve_there text members =
+    given_decided default_reserve SaysReserve reserve_says (given_value text members (codes "reserve_for"))
 
 pub reserve_one : (text : List ℕ) (members : List Member) (a b : ℕ) → IsReserve text members a
     → IsReserve text members b → a ≡ b
-reserve_one text members a b = given_one default_reserve SaysReserve reserve_says_one (given_value text members (codes "reserve_for")) a b
+reserve_one text members a b =
+    given_one default_reserve SaysReserve reserve_says_one
+    (given_value text members (codes "reserve_for")) a b
 
 abbrev SaysRetry : List ℕ → ℤ → Type 0
 SaysRetry value retry = (number : ℤ) × IsInteger64 value number × (retry ≡ retries number)
@@ -294,9 +191,12 @@ retry_says value =
 retry_says_one : SaysOne SaysRetry
 retry_says_one value x y (m, is, e) (n, also, g) = e ∙ ap retries (integer64_one value m n is also) ∙ sym g
 
-pub retry_there : (text : List ℕ) (members : List Member) → Decision ((retry : ℤ) × IsRetry text members retry)
-retry_there text members = given_decided (pos default_retry) SaysRetry retry_says (given_value text members (codes "retry"))
+pub retry_there : (text : List ℕ) (members : List Member)
+    → Decision ((retry : ℤ) × IsRetry text members retry)
+retry_there text members =
+    given_decided (pos default_retry) SaysRetry retry_says (given_value text members (codes "retry"))
 
-pub retry_one : (text : List ℕ) (members : List Member) (a b : ℤ) → IsRetry text members a → IsRetry text members b
-    → a ≡ b
-retry_one text members a b = given_one (pos default_retry) SaysRetry retry_says_one (given_value text members (codes "retry")) a b
+pub retry_one : (text : List ℕ) (members : List Member) (a b : ℤ) → IsRetry text members a
+    → IsRetry text members b → a ≡ b
+retry_one text members a b =
+    given_one (pos default_retry) SaysRetry retry_says_one (given_value text members (codes "retry")) a b

@@ -4,7 +4,7 @@ use Rattle.std.specs.Int.{IsInRange}
 use Rattle.std.specs.Int.Signed.{clash_ℤ}
 use Rattle.std.proofs.lemmas.Bool.{cases_lt}
 use Rattle.std.proofs.lemmas.Int.{by_lt_z}
-use Rattle.jiff_core.specs.Calendar.{IsCivilDate, IsYear, days_in_month}
+use Rattle.jiff_core.specs.Calendar.{IsCivilDate, days_in_month}
 use Rattle.fk_time.specs.declared.front.Front.{Front}
 use Rattle.fk_time.specs.declared.parts.Parts.{Parts}
 use Rattle.fk_time.specs.Reading.{ReadsAs}
@@ -27,7 +27,11 @@ three_decided (inl a) (inr b) c = inr (λ h. b h.1)
 three_decided (inr a) b c = inr (λ h. a h.0)
 
 pub most_decided : (n most : ℕ) → Decision (n ≤ most)
-most_decided n most = elim (cases_lt most n) [ inl more ↦ inr (λ h. absurd (omega (arith, more, h))) | inr h ↦ inl h ]
+most_decided n most =
+    elim (cases_lt most n) [
+      | inl more ↦ inr (λ h. absurd (omega (arith, more, h)))
+      | inr h ↦ inl h
+    ]
 
 pub signed_decided : (a b : ℤ) → Decision (a ≤ℤ b)
 signed_decided a b = by_lt_z b a (λ less. inr (λ h. clash_ℤ less h)) (λ h. inl h)
