@@ -2,7 +2,7 @@
 #![tactic(auto)]
 
 use fk_io::{StdSink, StdSource};
-use fk_json::Texts;
+use fk_job::Jobs;
 use fk_server::pipe;
 use std::alloc::AllocError;
 use std::process::ExitCode;
@@ -42,7 +42,7 @@ fn serve<R: Input + Print + AllocGlobal>(rt: &R, words: &[String]) -> Result<u8,
     for word in words {
         texts.push(word.as_str())?;
     }
-    let mut kept = Texts::new(rt.alloc());
+    let mut kept = Jobs::new(rt.alloc());
     let mut input = StdSource::new(rt);
     let mut output = StdSink::new(rt);
     Ok(pipe(rt.alloc(), &texts, &mut input, &mut output, &mut kept))

@@ -73,3 +73,8 @@ HasFault text (TooDeep at) = IsTooDeepAt IsObjectText text at
 HasFault text fault =
     (members : List Member) × IsObjectText most_levels text members
     × IsFirstFault text members fault
+
+-- the text is a job, and this one
+abbrev pub IsJobOf : List ℕ → Job → Type 0
+IsJobOf text job =
+    (members : List Member) × IsObjectText most_levels text members × IsJob text members job

@@ -56,6 +56,16 @@ impl Jobs {
         Ok(())
     }
 
+    /// Adds all of the others at the end, in order, or none of them.
+    pub fn append(&mut self, others: Jobs) -> Result<(), AllocError>
+        ensures ok { OnOk result (self.new.items ≡ self.old.items ++ others.items) }
+        ensures err { OnErr result (self.new.items ≡ self.old.items) }
+        ensures ready { length others.items ≤ self.old.spare → IsOk result }
+    {
+        let mut added = others.jobs;
+        self.jobs.append(&mut added)
+    }
+
     /// The job at a place, counted from 0, or `None` past the end.
     pub fn get(&self, at: usize) -> Option<&Job>
         ensures { option_copied result ≡ slice_get self.now.items at }

@@ -5,6 +5,7 @@ mod failure;
 mod fault;
 mod job;
 mod jobs;
+mod reading;
 mod stamp;
 mod writing;
 
@@ -12,5 +13,6 @@ pub use failure::Failure;
 pub use fault::JobFault;
 pub use job::Job;
 pub use jobs::Jobs;
+pub use reading::read_job;
 pub use stamp::Stamp;
 pub use writing::write_job;

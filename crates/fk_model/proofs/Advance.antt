@@ -1,56 +1,67 @@
 -- A talk that goes on: nothing, a piece, a line, one that is too long, one step behind another, and
 -- the end.
-use Rattle.std.proofs.Common.{◌≡◌, ◌≢◌, ℕ, Bool, true, false, cond, List, [], ◌∷◌, ◌++◌, refl, sym, ◌∙◌, ap, inl, inr, append_assoc}
+use Rattle.std.proofs.Common.{◌≡◌, ◌≢◌, ℕ, Bool, true, false, cond, List, [], ◌∷◌, ◌++◌, refl, sym, ◌∙◌, ap, subst, inl, inr, append_assoc}
 use Rattle.std.proofs.lemmas.Bool.{cases_Bool}
 use Rattle.std.proofs.lemmas.List.{append-nil}
 use Rattle.std.specs.List.{list_any}
-use Rattle.std.specs.Option.{option_to_list}
 use Rattle.fk_frame.specs.Lines.{lines_of}
 use Rattle.fk_frame.specs.declared.line_reader.Line.{Line}
 use Rattle.fk_frame.specs.declared.line_reader.Line.TheVariants.{Whole, Need, TooLong}
-use Rattle.fk_model.specs.declared.item.Item.{Item}
 use Rattle.fk_model.specs.declared.item.Phase.{Phase}
 use Rattle.fk_model.specs.declared.item.Phase.TheVariants.{Greeted, Accepted, Over}
 use Rattle.fk_model.specs.Commands.{is_plain_hello}
-use Rattle.fk_model.specs.Script.{too_long, ends_talk, item_of, phase_after, items_from, phase_from, script, IsOver}
+use Rattle.fk_model.specs.Payloads.{Given}
+use Rattle.fk_model.specs.Script.{too_long, ends_talk, phase_after, phase_from, AreItemsOf, AreItemsFrom, IsOver, IsScript}
 use Rattle.fk_model.specs.Advance.{Advances, IsIdle}
 
 -- nothing happens
 pub stays : (phase : Phase) (bytes : List ℕ) → Advances phase bytes [] phase bytes
-stays phase bytes = record { gives = λ more. refl; comes = λ more. refl }
+stays phase bytes = record { gives = λ more others are. are; comes = λ more. refl }
 
 -- one step and then another
-pub joined : {from mid to : Phase} {bytes at_hand rest : List ℕ} {items more_items : List Item}
+pub joined : {from mid to : Phase} {bytes at_hand rest : List ℕ} {items more_items : List Given}
     → Advances from bytes items mid at_hand → Advances mid at_hand more_items to rest
     → Advances from bytes (items ++ more_items) to rest
-joined {to = to} {rest = rest} {items = items} {more_items = more_items} one other = record {
-  gives = λ more. one.gives more ∙ ap (λ found. items ++ found) (other.gives more)
-      ∙ sym (append_assoc items more_items (items_from to (lines_of (rest ++ more))));
+joined {from = from} {bytes = bytes} {items = items} {more_items = more_items} one other = record {
+  gives = λ more others are.
+      subst (AreItemsFrom from (lines_of (bytes ++ more))) (sym (append_assoc items more_items others))
+      (one.gives more (more_items ++ others) (other.gives more others are));
   comes = λ more. one.comes more ∙ other.comes more;
 }
 
 -- a piece is fed
-pub fed : {from to : Phase} {bytes rest : List ℕ} {items : List Item} (piece : List ℕ)
+pub fed : {from to : Phase} {bytes rest : List ℕ} {items : List Given} (piece : List ℕ)
     → Advances from bytes items to rest → Advances from (bytes ++ piece) items to (rest ++ piece)
-fed {bytes = bytes} {rest = rest} piece before = record {
-  gives = λ more. rw (append_assoc bytes piece more, append_assoc rest piece more) (before.gives (piece ++ more));
+fed {from = from} {to = to} {bytes = bytes} {rest = rest} {items = items} piece before = record {
+  gives = λ more others are.
+      subst (λ all. AreItemsFrom from (lines_of all) (items ++ others)) (sym (append_assoc bytes piece more))
+      (before.gives (piece ++ more) others
+      (subst (λ all. AreItemsFrom to (lines_of all) others) (append_assoc rest piece more) are));
   comes = λ more. rw (append_assoc bytes piece more, append_assoc rest piece more) (before.comes (piece ++ more));
 }
 
 -- a line is read
-pub by_line : (phase : Phase) (bytes : List ℕ) (line : Line) (rest : List ℕ)
+pub by_line : (phase : Phase) (bytes : List ℕ) (line : Line) (items : List Given) (rest : List ℕ)
+    → AreItemsOf phase line items
     → ((more : List ℕ) → lines_of (bytes ++ more) ≡ line ∷ lines_of (rest ++ more))
-    → Advances phase bytes (option_to_list (item_of phase line)) (phase_after phase line) rest
-by_line phase bytes line rest cut = record {
-  gives = λ more. ap (items_from phase) (cut more);
+    → Advances phase bytes items (phase_after phase line) rest
+by_line phase bytes line items rest given cut = record {
+  gives = λ more others are.
+      subst (λ lines. AreItemsFrom phase lines (items ++ others)) (sym (cut more)) (items, others, given, are, refl);
   comes = λ more. ap (phase_from phase) (cut more);
 }
 
 -- nothing comes once the talk is over
-pub items_from-over : (lines : List Line) → items_from Over lines ≡ []
-unfolding item_of phase_after
-items_from-over [] = refl
-items_from-over (line ∷ lines) = items_from-over lines
+pub over_gives : (lines : List Line) → AreItemsFrom Over lines []
+unfolding AreItemsOf phase_after
+over_gives [] = refl
+over_gives (line ∷ lines) = ([], [], refl, over_gives lines, refl)
+
+pub over_gives_none : (lines : List Line) (items : List Given) → AreItemsFrom Over lines items → items ≡ []
+unfolding AreItemsOf phase_after
+over_gives_none [] items are = are
+over_gives_none (line ∷ lines) items (first, others, given, are, whole) =
+    whole ∙ ap (λ front. front ++ others) given ∙ over_gives_none lines others are
 
 pub phase_from-over : (lines : List Line) → phase_from Over lines ≡ Over
 unfolding phase_after
@@ -68,28 +79,30 @@ going_of true = tt
 going_of false = tt
 
 -- where a line that is too long is the first, it is all that is answered
-items_from-long : (phase : Phase) (lines behind : List Line) → phase ≢ Over → lines ≡ TooLong ∷ behind
-    → items_from phase lines ≡ too_long ∷ []
-unfolding item_of phase_after
-items_from-long Greeted lines behind going is = rw is (ap (λ items. too_long ∷ items) (items_from-over behind))
-items_from-long Accepted lines behind going is = rw is (ap (λ items. too_long ∷ items) (items_from-over behind))
-items_from-long Over lines behind going is = absurd (going refl)
+long_gives : (phase : Phase) (behind : List Line) → phase ≢ Over
+    → AreItemsFrom phase (TooLong ∷ behind) (too_long ∷ [])
+unfolding AreItemsOf phase_after
+long_gives Greeted behind going = (too_long ∷ [], [], refl, over_gives behind, refl)
+long_gives Accepted behind going = (too_long ∷ [], [], refl, over_gives behind, refl)
+long_gives Over behind going = absurd (going refl)
 
-phase_from-long : (phase : Phase) (lines behind : List Line) → lines ≡ TooLong ∷ behind
-    → phase_from phase lines ≡ Over
+phase_from-long : (phase : Phase) (behind : List Line) → phase_from phase (TooLong ∷ behind) ≡ Over
 unfolding phase_after
-phase_from-long Greeted lines behind is = rw is (phase_from-over behind)
-phase_from-long Accepted lines behind is = rw is (phase_from-over behind)
-phase_from-long Over lines behind is = phase_from-over lines
+phase_from-long Greeted behind = phase_from-over behind
+phase_from-long Accepted behind = phase_from-over behind
+phase_from-long Over behind = phase_from-over behind
 
 -- a line that is too long is read, and ends the talk
 pub by_long_line : (phase : Phase) (bytes rest : List ℕ) → phase ≢ Over
     → ((more : List ℕ) → (behind : List Line) × (lines_of (bytes ++ more) ≡ TooLong ∷ behind))
     → Advances phase bytes (too_long ∷ []) Over rest
 by_long_line phase bytes rest going long = record {
-  gives = λ more. items_from-long phase _ (long more).0 going (long more).1
-      ∙ ap (λ items. too_long ∷ items) (sym (items_from-over (lines_of (rest ++ more))));
-  comes = λ more. phase_from-long phase _ (long more).0 (long more).1
+  gives = λ more others are.
+      let none = over_gives_none (lines_of (rest ++ more)) others are in
+      subst (λ items. AreItemsFrom phase (lines_of (bytes ++ more)) (too_long ∷ items)) (sym none)
+      (subst (λ lines. AreItemsFrom phase lines (too_long ∷ [])) (sym (long more).1)
+      (long_gives phase (long more).0 going));
+  comes = λ more. ap (phase_from phase) (long more).1 ∙ phase_from-long phase (long more).0
       ∙ sym (phase_from-over (lines_of (rest ++ more)));
 }
 
@@ -137,7 +150,7 @@ going_behind phase (line ∷ lines) going none =
     ]
 
 -- the talk has come to this phase
-phase_is : (taken : List ℕ) (items : List Item) (phase : Phase) (rest : List ℕ)
+phase_is : (taken : List ℕ) (items : List Given) (phase : Phase) (rest : List ℕ)
     → Advances Greeted taken items phase rest → IsIdle phase rest → phase_from Greeted (lines_of taken) ≡ phase
 phase_is taken items phase rest all (inl over) =
     let comes = rw (append-nil, append-nil) at (all.comes []) in
@@ -146,18 +159,29 @@ phase_is taken items phase rest all (inr none) =
     let comes = rw (append-nil, append-nil) at (all.comes []) in
     comes ∙ ap (phase_from phase) none
 
--- where no line is left, what was given is the script of what was taken
-pub script_is : (taken : List ℕ) (items : List Item) (phase : Phase) (rest : List ℕ)
-    → Advances Greeted taken items phase rest → IsIdle phase rest → script taken ≡ items
-script_is taken items phase rest all (inl over) =
-    let gives = rw (append-nil, append-nil) at (all.gives []) in
-    gives ∙ ap (λ more. items ++ more) (rw over (items_from-over (lines_of rest))) ∙ append-nil items
-script_is taken items phase rest all (inr none) =
-    let gives = rw (append-nil, append-nil) at (all.gives []) in
-    gives ∙ ap (λ more. items ++ items_from phase more) none ∙ append-nil items
+-- what was given begins a script of what was taken, and the rest of it is what is left gives
+pub begins_script : (taken : List ℕ) (items others : List Given) (phase : Phase) (rest : List ℕ)
+    → Advances Greeted taken items phase rest → AreItemsFrom phase (lines_of rest) others
+    → IsScript taken (items ++ others)
+begins_script taken items others phase rest all are =
+    subst (λ bytes. IsScript bytes (items ++ others)) (append-nil taken)
+    (all.gives [] others (subst (λ bytes. AreItemsFrom phase (lines_of bytes) others) (sym (append-nil rest)) are))
+
+-- where no line is left, nothing more is given
+pub idle_gives : (phase : Phase) (rest : List ℕ) → IsIdle phase rest → AreItemsFrom phase (lines_of rest) []
+idle_gives phase rest (inl over) =
+    subst (λ now. AreItemsFrom now (lines_of rest) []) (sym over) (over_gives (lines_of rest))
+idle_gives phase rest (inr none) = subst (λ lines. AreItemsFrom phase lines []) (sym none) refl
+
+-- where no line is left, what was given is a script of what was taken
+pub script_is : (taken : List ℕ) (items : List Given) (phase : Phase) (rest : List ℕ)
+    → Advances Greeted taken items phase rest → IsIdle phase rest → IsScript taken items
+script_is taken items phase rest all idle =
+    subst (IsScript taken) (append-nil items)
+    (begins_script taken items [] phase rest all (idle_gives phase rest idle))
 
 -- the client has ended the talk where it is over
-pub over_is : (taken : List ℕ) (items : List Item) (rest : List ℕ)
+pub over_is : (taken : List ℕ) (items : List Given) (rest : List ℕ)
     → Advances Greeted taken items Over rest → IsOver taken
 over_is taken items rest all =
     elim (cases_Bool (list_any ends_talk (lines_of taken))) [
@@ -168,12 +192,7 @@ over_is taken items rest all =
     ]
 
 -- and nowhere else
-pub not_over : (taken : List ℕ) (items : List Item) (phase : Phase) (rest : List ℕ)
+pub not_over : (taken : List ℕ) (items : List Given) (phase : Phase) (rest : List ℕ)
     → Advances Greeted taken items phase rest → IsIdle phase rest → phase ≢ Over → ¬ IsOver taken
 not_over taken items phase rest all idle going ended =
     going (sym (phase_is taken items phase rest all idle) ∙ over_behind Greeted (lines_of taken) ended)
-
--- what was given begins the script of what was taken, whatever is left
-pub begins_script : (taken : List ℕ) (items : List Item) (phase : Phase) (rest : List ℕ)
-    → Advances Greeted taken items phase rest → script taken ≡ items ++ items_from phase (lines_of rest)
-begins_script taken items phase rest all = rw (append-nil, append-nil) at (all.gives [])

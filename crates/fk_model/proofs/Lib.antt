@@ -2,3 +2,5 @@ pub mod Advance
 pub mod Histories
 pub mod ToldApart
 pub mod Sorting
+pub mod Total
+pub mod Payload

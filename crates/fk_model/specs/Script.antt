@@ -1,59 +1,64 @@
 -- The script of a stream: what is answered to it and what is kept of it, on a connection of its own.
-use Rattle.std.specs.Prelude.{◌≡◌, ℕ, true, List, [], ◌∷◌, ◌++◌, Bool, false, Option, None, Some, codes, if◌then◌else◌}
+use Rattle.std.specs.Prelude.{◌≡◌, ℕ, true, List, [], ◌∷◌, ◌++◌, Bool, false, codes, if◌then◌else◌}
 use Rattle.std.specs.List.{flat_map, list_any}
-use Rattle.std.specs.Option.{option_to_list}
-use Rattle.fk_json.specs.Plain.{is_plain_form}
+use Rattle.fk_job.specs.declared.job.Job.{Job}
 use Rattle.fk_frame.specs.declared.line_reader.Line.{Line}
 use Rattle.fk_frame.specs.declared.line_reader.Line.TheVariants.{Whole, Need, TooLong}
-use Rattle.fk_frame.specs.declared.reply.Reply.{Reply}
-use Rattle.fk_frame.specs.declared.reply.Reply.TheVariants.{Status, Error}
 use Rattle.fk_frame.specs.Replies.{reply_bytes}
 use Rattle.fk_frame.specs.Lines.{lines_of}
-use Rattle.fk_model.specs.declared.item.Item.{Item}
 use Rattle.fk_model.specs.declared.item.Phase.{Phase}
 use Rattle.fk_model.specs.declared.item.Phase.TheVariants.{Greeted, Accepted, Over}
 use Rattle.fk_model.specs.Commands.{arguments, has_verb, is_plain_hello}
+use Rattle.fk_model.specs.Payloads.{Given, IsBatch, IsPushed, ok, refused}
 
 -- the server speaks first
 abbrev pub greeting : List ℕ
 greeting = codes "+HI {\"v\":2}\r\n"
 
--- a reply alone
-abbrev pub said : Reply → Item
-said reply = record { reply = reply; kept = None }
-
-abbrev pub ok : Item
-ok = said (Status (codes "OK"))
-
-abbrev pub refused : List ℕ → Item
-refused text = said (Error text)
-
-abbrev pub not_served : Item
-not_served = refused (codes "ERR Not served yet")
+abbrev pub not_served : Given
+not_served = refused (codes "Not served yet")
 
 -- what is answered to a line that is too long
-abbrev pub too_long : Item
-too_long = refused (codes "ERR Line too long")
+abbrev pub too_long : Given
+too_long = refused (codes "Line too long")
 
--- a PUSH keeps its arguments where they are of the plain form
-abbrev pub pushed : List ℕ → Item
-pushed job =
-    if is_plain_form job
-    then record { reply = Status (codes "OK"); kept = Some job }
-    else not_served
+-- ---- a line
 
--- what a line gives behind an accepted HELLO
-abbrev pub command_item : List ℕ → Item
-command_item line =
-    if has_verb (codes "HELLO") line then not_served else
-    (if has_verb (codes "PUSH") line then pushed (arguments line)
-    else refused (codes "ERR Unknown command"))
+-- what a line asks for, by its verb
+pub data Command : Type 0 where
+  end : Command
+  hello : Command
+  push : Command
+  batch : Command
+  unknown : Command
 
--- what a line gives before a HELLO was accepted
-abbrev pub handshake_item : List ℕ → Item
-handshake_item line =
-    if is_plain_hello line then ok else
-    (if has_verb (codes "HELLO") line then not_served else refused (codes "ERR HELLO first"))
+abbrev pub command_of : List ℕ → Command
+command_of line =
+    if has_verb (codes "END") line then end else
+    (if has_verb (codes "HELLO") line then hello else
+    (if has_verb (codes "PUSH") line then push else
+    (if has_verb (codes "PUSHB") line then batch else unknown)))
+
+-- what a line gives before a HELLO was accepted: nothing for END
+abbrev pub handshake_items : List ℕ → Command → List Given
+handshake_items line end = []
+handshake_items line hello = (if is_plain_hello line then ok else not_served) ∷ []
+handshake_items line push = refused (codes "HELLO first") ∷ []
+handshake_items line batch = refused (codes "HELLO first") ∷ []
+handshake_items line unknown = refused (codes "HELLO first") ∷ []
+
+-- what a command gives behind an accepted HELLO, with these arguments
+abbrev pub IsGiven : Command → List ℕ → Given → Type 0
+IsGiven end arguments given = ⊥
+IsGiven hello arguments given = given ≡ not_served
+IsGiven push arguments given = IsPushed arguments given
+IsGiven batch arguments given = IsBatch arguments given
+IsGiven unknown arguments given = given ≡ refused (codes "Unknown command")
+
+abbrev pub AreGiven : Command → List ℕ → List Given → Type 0
+AreGiven end arguments items = items ≡ []
+AreGiven command arguments items =
+    (given : Given) × IsGiven command arguments given × (items ≡ given ∷ [])
 
 -- a line that ends the talk says END, or it is too long. `Need` is no line of a stream: it ends
 -- nothing, and gives nothing
@@ -62,15 +67,13 @@ ends_talk (Whole line) = has_verb (codes "END") line
 ends_talk TooLong = true
 ends_talk Need = false
 
--- what a line gives: nothing once the talk is over, and nothing for END
-unfoldable pub item_of : Phase → Line → Option Item
-item_of Over line = None
-item_of phase TooLong = Some too_long
-item_of phase Need = None
-item_of Greeted (Whole line) =
-    if has_verb (codes "END") line then None else Some (handshake_item line)
-item_of Accepted (Whole line) =
-    if has_verb (codes "END") line then None else Some (command_item line)
+-- what a line gives, none or one: nothing once the talk is over, and nothing for END
+unfoldable pub AreItemsOf : Phase → Line → List Given → Type 0
+AreItemsOf Over line items = items ≡ []
+AreItemsOf phase TooLong items = items ≡ too_long ∷ []
+AreItemsOf phase Need items = items ≡ []
+AreItemsOf Greeted (Whole line) items = items ≡ handshake_items line (command_of line)
+AreItemsOf Accepted (Whole line) items = AreGiven (command_of line) (arguments line) items
 
 -- how far the talk has come behind a line
 unfoldable pub phase_after : Phase → Line → Phase
@@ -82,11 +85,14 @@ phase_after Greeted (Whole line) =
     (if is_plain_hello line then Accepted else Greeted)
 phase_after Accepted (Whole line) = if has_verb (codes "END") line then Over else Accepted
 
+-- ---- lines
+
 -- what the lines give, from a phase on
-abbrev pub items_from : Phase → List Line → List Item
-items_from phase [] = []
-items_from phase (line ∷ lines) =
-    option_to_list (item_of phase line) ++ items_from (phase_after phase line) lines
+abbrev pub AreItemsFrom : Phase → List Line → List Given → Type 0
+AreItemsFrom phase [] items = items ≡ []
+AreItemsFrom phase (line ∷ lines) items =
+    (first others : List Given) × AreItemsOf phase line first
+    × AreItemsFrom (phase_after phase line) lines others × (items ≡ first ++ others)
 
 -- how far the talk has come behind the lines
 abbrev pub phase_from : Phase → List Line → Phase
@@ -95,21 +101,21 @@ phase_from phase (line ∷ lines) = phase_from (phase_after phase line) lines
 
 -- what a stream gives, line for line: it ends at END and at the first line that is too long, and a
 -- last line without its end is ignored, unless it is too long
-abbrev pub script : List ℕ → List Item
-script bytes = items_from Greeted (lines_of bytes)
+abbrev pub IsScript : List ℕ → List Given → Type 0
+IsScript bytes items = AreItemsFrom Greeted (lines_of bytes) items
 
 -- the client has ended the talk: by END, in a whole line, or by a line that is too long
 abbrev pub IsOver : List ℕ → Type 0
 IsOver bytes = list_any ends_talk (lines_of bytes) ≡ true
 
 -- the replies' bytes, one behind the other
-abbrev pub replies : List Item → List ℕ
+abbrev pub replies : List Given → List ℕ
 replies items = flat_map (λ item. reply_bytes item.reply) items
 
--- the texts that are kept, in order
-abbrev pub kept_texts : List Item → List (List ℕ)
-kept_texts items = flat_map (λ item. option_to_list item.kept) items
+-- the jobs that are kept, in order
+abbrev pub kept_jobs : List Given → List Job
+kept_jobs items = flat_map (λ item. item.kept) items
 
--- all that is written to a client that has sent these bytes
-abbrev pub output : List ℕ → List ℕ
-output bytes = greeting ++ replies (script bytes)
+-- all that is written to a client whose bytes give this
+abbrev pub output : List Given → List ℕ
+output items = greeting ++ replies items

@@ -1,5 +1,6 @@
 use fk_frame::Reply;
-use fk_json::Text;
+use fk_job::Jobs;
+use std::marker::Model;
 
 /// How far the talk on one connection has come.
 #[derive(Clone, Copy, Debug, PartialEq, Eq)]
@@ -12,9 +13,9 @@ pub enum Phase {
     Over,
 }
 
-/// What one line of the client gives: the reply to it, and the text that is kept, if one is.
+/// What one line of the client gives: the reply to it, and the jobs that are kept.
 #[derive(Debug, Drop)]
 pub struct Item {
     pub reply: Reply,
-    pub kept: Option<Text>,
+    pub jobs: Jobs,
 }

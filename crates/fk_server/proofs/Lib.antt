@@ -1,4 +1,6 @@
 pub mod Writing
+pub mod Giving
 pub mod Answering
 pub mod Ends
+pub mod Decided
 pub mod Words

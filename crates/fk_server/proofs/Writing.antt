@@ -19,8 +19,8 @@ wrote_both old mid new xs ys first second = record {
 }
 
 -- memory ran out before anything was written
-pub starved_at_once : (out : Written) (bytes : List ℕ) → Starved out out bytes
-starved_at_once out bytes = record { part = []; begins = (bytes, refl); gained = gained_nothing out.held }
+pub starved_at_once : (out : Written) (bytes : List ℕ) → Starved out out bytes []
+starved_at_once out bytes = record { begins = (bytes, refl); gained = gained_nothing out.held }
 
 -- what begins a list begins it behind another one, too
 pub begins_behind : (xs front whole : List ℕ) → Begins front whole → Begins (xs ++ front) (xs ++ whole)
@@ -37,20 +37,27 @@ pub part_of_more : (front whole more : List ℕ) → IsPartOf front whole → Is
 part_of_more front whole more (rest, some, is) =
     (rest ++ more, omega (arith, length-append rest more), ap (λ s. s ++ more) is ∙ append_assoc front rest more)
 
+-- what was written of bytes begins them
+pub stopped_begins : (ended : Ended) (old new : Written) (bytes part : List ℕ) → Stops ended old new bytes part
+    → Begins part bytes
+stopped_begins Closed old new bytes part stops = absurd stops
+stopped_begins ReadFault old new bytes part stops = absurd stops
+stopped_begins WriteFault old new bytes part stops = (stops.is_part.0, stops.is_part.2)
+stopped_begins Spent old new bytes part stops = absurd stops
+stopped_begins NoMemory old new bytes part stops = stops.begins
+
 -- some bytes were written, and then a step gave up at more
-pub stops_behind : (ended : Ended) (old mid new : Written) (xs ys : List ℕ)
-    → Wrote old mid xs → Stops ended mid new ys → Stops ended old new (xs ++ ys)
-stops_behind Closed old mid new xs ys first stops = stops
-stops_behind ReadFault old mid new xs ys first stops = stops
-stops_behind WriteFault old mid new xs ys first stops = record {
-  part = xs ++ stops.part;
-  is_part = part_behind xs stops.part ys stops.is_part;
-  gained = gained_both old.held mid.held new.held xs stops.part first.gained stops.gained;
+pub stops_behind : (ended : Ended) (old mid new : Written) (xs ys part : List ℕ)
+    → Wrote old mid xs → Stops ended mid new ys part → Stops ended old new (xs ++ ys) (xs ++ part)
+stops_behind Closed old mid new xs ys part first stops = stops
+stops_behind ReadFault old mid new xs ys part first stops = stops
+stops_behind WriteFault old mid new xs ys part first stops = record {
+  is_part = part_behind xs part ys stops.is_part;
+  gained = gained_both old.held mid.held new.held xs part first.gained stops.gained;
   rose = on_then_rose old.faults mid.faults new.faults first.later stops.rose;
 }
-stops_behind Spent old mid new xs ys first stops = stops
-stops_behind NoMemory old mid new xs ys first stops = record {
-  part = xs ++ stops.part;
-  begins = begins_behind xs stops.part ys stops.begins;
-  gained = gained_both old.held mid.held new.held xs stops.part first.gained stops.gained;
+stops_behind Spent old mid new xs ys part first stops = stops
+stops_behind NoMemory old mid new xs ys part first stops = record {
+  begins = begins_behind xs part ys stops.begins;
+  gained = gained_both old.held mid.held new.held xs part first.gained stops.gained;
 }

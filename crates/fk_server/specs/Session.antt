@@ -4,18 +4,20 @@ use Rattle.fk_io.specs.declared.fault.Ended.{Ended}
 use Rattle.fk_io.specs.declared.fault.Ended.TheVariants.{Closed, ReadFault, WriteFault, Spent, NoMemory}
 use Rattle.fk_io.specs.Content.{Took, Gained, IsAtEnd}
 use Rattle.fk_io.specs.Faults.{Rose}
-use Rattle.fk_model.specs.Script.{script, output, kept_texts, IsOver}
+use Rattle.fk_job.specs.declared.job.Job.{Job}
+use Rattle.fk_model.specs.Payloads.{Given}
+use Rattle.fk_model.specs.Script.{IsOver, IsScript, kept_jobs, output}
 use Rattle.fk_server.specs.declared.session.TheConstants.{PIECE, TAKEN_MAX}
 
--- what a session's input, its output and its list of kept texts tell
+-- what a session's input, its output and its list of kept jobs tell
 pub record Setting : Type 0 where
   pub left : Option (List ℕ)
   pub read_faults : ℕ
   pub held : Option (List ℕ)
   pub write_faults : ℕ
-  pub kept : List (List ℕ)
+  pub kept : List Job
 
-abbrev pub setting : Option (List ℕ) → ℕ → Option (List ℕ) → ℕ → List (List ℕ) → Setting
+abbrev pub setting : Option (List ℕ) → ℕ → Option (List ℕ) → ℕ → List Job → Setting
 setting left read_faults held write_faults kept = record {
   left = left;
   read_faults = read_faults;
@@ -32,52 +34,67 @@ Begins front whole = (rest : List ℕ) × (whole ≡ front ++ rest)
 abbrev pub IsPartOf : List ℕ → List ℕ → Type 0
 IsPartOf front whole = (rest : List ℕ) × (0 < length rest) × (whole ≡ front ++ rest)
 
--- the greeting and every reply to the bytes taken was written whole, and every text of them is kept
--- that is to be
-pub record IsAnswered (old new : Setting) (taken written : List ℕ) : Type 0 where
-  pub replies : written ≡ output taken
-  pub kept : new.kept ≡ old.kept ++ kept_texts (script taken)
+-- the greeting and every reply was written whole, and every job is kept
+pub record IsAnswered (old new : Setting) (items : List Given) (written : List ℕ) : Type 0 where
+  pub replies : written ≡ output items
+  pub kept : new.kept ≡ old.kept ++ kept_jobs items
 
--- At most the last piece of the bytes taken may be without its answer, and the talk did not end before
--- that piece: either nothing was taken, or some bytes that don't end the talk, to which all was
--- written, and then at most a piece.
+-- The jobs of the first lines are kept, each line's all or none, and no reply was written that isn't
+-- one to them: every line whose reply was written whole is among them.
+pub record IsKeptSoFar (old new : Setting) (items : List Given) (written : List ℕ) : Type 0 where
+  pub front : List Given
+  pub others : List Given
+  pub whole : items ≡ front ++ others
+  pub kept : new.kept ≡ old.kept ++ kept_jobs front
+  pub no_more : Begins written (output front)
+
+-- At most the last piece of the bytes taken may be without its answer, and no END stands before that
+-- piece: either nothing was taken, or some bytes without END, to which all was written, and then at
+-- most a piece.
 abbrev pub IsPrompt : List ℕ → List ℕ → Type 0
-IsPrompt taken written = (taken ≡ []) ⊎ ((before piece : List ℕ) × (taken ≡ before ++ piece)
-    × (length piece ≤ PIECE) × ¬ IsOver before × Begins (output before) written)
+IsPrompt taken written = (taken ≡ []) ⊎ ((before piece : List ℕ) × (items : List Given)
+    × (taken ≡ before ++ piece) × (length piece ≤ PIECE) × ¬ IsOver before
+    × IsScript before items × Begins (output items) written)
 
 -- more might have been taken, and nothing was to come, where that is told
 abbrev pub IsReadToEnd : Setting → List ℕ → Type 0
 IsReadToEnd new taken = (length taken < TAKEN_MAX) × IsAtEnd new.left
 
 -- what each end says
-abbrev pub HasEnded : Ended → Setting → Setting → List ℕ → List ℕ → Type 0
+abbrev pub HasEnded : Ended → Setting → Setting → List ℕ → List Given → List ℕ → Type 0
 -- all was answered, and the client ended the talk or has no more to say
-HasEnded Closed old new taken written =
-    IsAnswered old new taken written × (IsOver taken ⊎ (¬ IsOver taken × IsReadToEnd new taken))
+HasEnded Closed old new taken items written =
+    IsAnswered old new items written × (IsOver taken ⊎ (¬ IsOver taken × IsReadToEnd new taken))
 -- all was answered, and the next read failed
-HasEnded ReadFault old new taken written =
-    IsAnswered old new taken written × ¬ IsOver taken × (length taken < TAKEN_MAX)
+HasEnded ReadFault old new taken items written =
+    IsAnswered old new items written × ¬ IsOver taken × (length taken < TAKEN_MAX)
     × Rose old.read_faults new.read_faults
 -- a write failed: the greeting and the replies were written up to some byte, and not to their end
-HasEnded WriteFault old new taken written =
-    IsPartOf written (output taken) × Rose old.write_faults new.write_faults
+HasEnded WriteFault old new taken items written =
+    IsPartOf written (output items) × IsKeptSoFar old new items written
+    × Rose old.write_faults new.write_faults
 -- all was answered, and no more bytes may be read
-HasEnded Spent old new taken written =
-    IsAnswered old new taken written × ¬ IsOver taken × (length taken ≡ TAKEN_MAX)
+HasEnded Spent old new taken items written =
+    IsAnswered old new items written × ¬ IsOver taken × (length taken ≡ TAKEN_MAX)
 -- memory ran out: the greeting and the replies were written up to some byte
-HasEnded NoMemory old new taken written = Begins written (output taken)
+HasEnded NoMemory old new taken items written =
+    Begins written (output items) × IsKeptSoFar old new items written
 
--- the session took these bytes and wrote those, and ended so
-pub record Serves (ended : Ended) (old new : Setting) (taken written : List ℕ) : Type 0 where
+-- the session took these bytes, which give these items, wrote those bytes, and ended so
+pub record Serves
+    (ended : Ended) (old new : Setting) (taken : List ℕ) (items : List Given) (written : List ℕ)
+    : Type 0 where
   pub took : Took old.left taken new.left
+  pub script : IsScript taken items
   pub gained : Gained old.held written new.held
   pub within : length taken ≤ TAKEN_MAX
   pub prompt : IsPrompt taken written
-  pub outcome : HasEnded ended old new taken written
+  pub outcome : HasEnded ended old new taken items written
 
 -- there was such a session
 abbrev pub IsSession : Ended → Setting → Setting → Type 0
-IsSession ended old new = (taken written : List ℕ) × Serves ended old new taken written
+IsSession ended old new =
+    (taken : List ℕ) × (items : List Given) × (written : List ℕ) × Serves ended old new taken items written
 
 -- the exit status of a session's end
 abbrev pub status_of : Ended → ℕ

@@ -4,7 +4,7 @@ ghost use Rattle.fk_server.specs.Session.{IsServed, setting, status_of};
 
 use crate::session::serve;
 use fk_io::{Ended, Sink, Source};
-use fk_json::Texts;
+use fk_job::Jobs;
 use std::alloc::Global;
 
 /// The status for words that aren't valid.
@@ -14,14 +14,14 @@ const USAGE: u8 = 2;
 /// exit status: 0 where the client ended the talk or the input ended, 2 where the words aren't the
 /// one word `pipe`, 3 where a read failed, 4 where a write failed, 7 where 2^62 bytes were taken and
 /// more would be read, and 8 for want of memory. The client ends the talk by END, or by a line that
-/// is too long. The texts of the jobs that were taken are added to `kept`; after 4 and 8 nothing is
-/// said of it.
+/// is too long. The jobs that were taken are added to `kept`; after 4 and 8 those of the first
+/// lines, each line's all or none, and of every line whose reply was written whole.
 pub fn pipe<S: Source, K: Sink>(
     alloc: Global,
     words: &[&str],
     input: &mut S,
     output: &mut K,
-    kept: &mut Texts,
+    kept: &mut Jobs,
 ) -> u8
     // Status 2 comes exactly where the words aren't valid, and then nothing was called.
     ensures usage { (result ≡ 2) ↔ ¬ AreValid words.now }
@@ -31,9 +31,9 @@ pub fn pipe<S: Source, K: Sink>(
     // With valid words, one session was served.
     ensures served { AreValid words.now → IsServed result
         (setting (S.left input.old) (S.read_faults input.old)
-        (K.held output.old) (K.write_faults output.old) kept.old)
+        (K.held output.old) (K.write_faults output.old) kept.old.items)
         (setting (S.left input.new) (S.read_faults input.new)
-        (K.held output.new) (K.write_faults output.new) kept.new) }
+        (K.held output.new) (K.write_faults output.new) kept.new.items) }
 {
     if !are_valid(words) {
         return USAGE;

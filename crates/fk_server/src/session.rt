@@ -4,12 +4,12 @@ ghost use Rattle.fk_io.specs.Content.{Took, IsAtEnd};
 ghost use Rattle.fk_io.specs.Faults.{Rose};
 ghost use Rattle.fk_model.specs.Advance.{IsIdle};
 ghost use Rattle.fk_server.specs.Session.{Setting, setting, IsSession};
-ghost use Rattle.fk_server.specs.Answering.{written, standing, Answers, StopsAnswering, Stands};
+ghost use Rattle.fk_server.specs.Answering.{results, standing, Answers, StopsAnswering, Stands};
 
 use crate::answer::{serve_lines, write_all};
 use fk_frame::LineReader;
 use fk_io::{Ended, Sink, Source};
-use fk_json::Texts;
+use fk_job::Jobs;
 use fk_model::Phase;
 use std::alloc::Global;
 
@@ -39,13 +39,13 @@ pub fn serve<S: Source, K: Sink>(
     alloc: Global,
     input: &mut S,
     output: &mut K,
-    kept: &mut Texts,
+    kept: &mut Jobs,
 ) -> Ended
     ensures { IsSession result
         (setting (S.left input.old) (S.read_faults input.old)
-        (K.held output.old) (K.write_faults output.old) kept.old)
+        (K.held output.old) (K.write_faults output.old) kept.old.items)
         (setting (S.left input.new) (S.read_faults input.new)
-        (K.held output.new) (K.write_faults output.new) kept.new) }
+        (K.held output.new) (K.write_faults output.new) kept.new.items) }
 {
     if let Err(ended) = write_all(output, GREETING) {
         return ended;
@@ -69,21 +69,21 @@ fn serve_piece<S: Source, K: Sink>(
     session: &mut Session,
     input: &mut S,
     output: &mut K,
-    kept: &mut Texts,
+    kept: &mut Jobs,
 ) -> Result<(), Ended>
     requires { session.old.phase ≢ Phase.Over }
     ensures stands { (first : Setting) → Stands first
         (setting (S.left input.old) (S.read_faults input.old)
-        (K.held output.old) (K.write_faults output.old) kept.old)
+        (K.held output.old) (K.write_faults output.old) kept.old.items)
         session.old.phase session.old.lines session.old.taken
         → MatchResult result
         (λ _. Stands first
         (setting (S.left input.new) (S.read_faults input.new)
-        (K.held output.new) (K.write_faults output.new) kept.new)
+        (K.held output.new) (K.write_faults output.new) kept.new.items)
         session.new.phase session.new.lines session.new.taken)
         (λ ended. IsSession ended first
         (setting (S.left input.new) (S.read_faults input.new)
-        (K.held output.new) (K.write_faults output.new) kept.new)) }
+        (K.held output.new) (K.write_faults output.new) kept.new.items)) }
     ensures goes_on { OnOk result (session.old.taken < session.new.taken) }
     ensures within { OnOk result (session.new.taken ≤ TAKEN_MAX) }
 {
@@ -124,20 +124,20 @@ fn answer_piece<K: Sink>(
     session: &mut Session,
     piece: &[u8],
     output: &mut K,
-    kept: &mut Texts,
+    kept: &mut Jobs,
 ) -> Result<(), Ended>
     requires { session.old.taken + length piece.now ≤ TAKEN_MAX }
     ensures ok { OnOk result (Answers
         (standing session.old.phase (session.old.lines ++ piece.now)
-        (written (K.held output.old) (K.write_faults output.old)) kept.old)
+        (results (K.held output.old) (K.write_faults output.old) kept.old.items))
         (standing session.new.phase session.new.lines
-        (written (K.held output.new) (K.write_faults output.new)) kept.new)) }
+        (results (K.held output.new) (K.write_faults output.new) kept.new.items))) }
     ensures idle { OnOk result (IsIdle session.new.phase session.new.lines) }
     ensures counted { OnOk result (session.new.taken ≡ session.old.taken + length piece.now) }
     ensures err { IfErr result (λ ended. StopsAnswering ended
         (standing session.old.phase (session.old.lines ++ piece.now)
-        (written (K.held output.old) (K.write_faults output.old)) kept.old)
-        (written (K.held output.new) (K.write_faults output.new))) }
+        (results (K.held output.old) (K.write_faults output.old) kept.old.items))
+        (results (K.held output.new) (K.write_faults output.new) kept.new.items)) }
 {
     session.lines.feed(piece)?;
     session.taken += piece.len() as u64;

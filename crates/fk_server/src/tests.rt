@@ -2,7 +2,7 @@ ghost use Rattle.std.specs.Prelude.{Some};
 
 use crate::pipe;
 use fk_io::{ByteSink, ByteSource, Failed, Sink, Source};
-use fk_json::Texts;
+use fk_job::Jobs;
 use std::alloc::{AllocError, Global};
 use std::process::Abort;
 use std::test::Fail;
@@ -11,7 +11,7 @@ const HELLO: &[u8] = b"HELLO {\"v\":2}\r\n";
 
 const PUSH: &[u8] = b"PUSH {\"jid\":\"abcdefgh\",\"jobtype\":\"Mail\",\"args\":[1,2.50]}\r\n";
 
-const JOB: &[u8] = b"{\"jid\":\"abcdefgh\",\"jobtype\":\"Mail\",\"args\":[1,2.50]}";
+const JID: &[u8] = b"abcdefgh";
 
 const END: &[u8] = b"END\r\n";
 
@@ -35,7 +35,7 @@ const PLAIN: Outside<'static> = Outside {
 struct Outcome {
     status: u8,
     written: Vec<u8>,
-    kept: Texts,
+    kept: Jobs,
     left: Vec<u8>,
 }
 
@@ -51,7 +51,7 @@ fn ran(alloc: Global, parts: &[&[u8]], outside: &Outside) -> Result<Outcome, All
     let bytes = joined(alloc, parts)?;
     let mut input = ByteSource::new(alloc, &bytes, outside.cuts, outside.failing_reads)?;
     let mut output = ByteSink::new(alloc, outside.failing_writes)?;
-    let mut kept = Texts::new(alloc);
+    let mut kept = Jobs::new(alloc);
     let status = pipe(alloc, &["pipe"], &mut input, &mut output, &mut kept);
     Ok(Outcome {
         status,
@@ -93,7 +93,7 @@ fn a_push_is_answered_and_end_ends(rt: HostRuntime) -> Result<(), Fail> {
         b"+HI {\"v\":2}\r\n+OK\r\n+OK\r\n".as_slice()
     );
     assert_eq!(rt; ran.kept.len(), 1);
-    assert_eq!(rt; ran.kept.get(0).map(|text| text.bytes()), Some(JOB));
+    assert_eq!(rt; ran.kept.get(0).map(|job| job.jid.bytes()), Some(JID));
     Ok(())
 }
 
@@ -124,7 +124,7 @@ fn pieces_of_one_byte_with_line_feeds_alone_give_the_same(rt: HostRuntime) -> Re
         ran.written.as_slice(),
         b"+HI {\"v\":2}\r\n+OK\r\n+OK\r\n".as_slice()
     );
-    assert_eq!(rt; ran.kept.get(0).map(|text| text.bytes()), Some(JOB));
+    assert_eq!(rt; ran.kept.get(0).map(|job| job.jid.bytes()), Some(JID));
     assert_eq!(rt; ran.left.as_slice(), b"DANCE\n".as_slice());
     Ok(())
 }
@@ -152,10 +152,7 @@ fn each_line_has_its_reply(rt: HostRuntime) -> Result<(), Fail> {
             b"-ERR Unknown command\r\n".as_slice(),
         ),
         (HELLO, b"-ERR Not served yet\r\n".as_slice()),
-        (
-            b"PUSH {}\r\n".as_slice(),
-            b"-ERR Not served yet\r\n".as_slice(),
-        ),
+        (b"PUSH {}\r\n".as_slice(), b"-ERR No jid\r\n".as_slice()),
         (PUSH, b"+OK\r\n".as_slice()),
         (b"END now\r\n".as_slice(), b"".as_slice()),
         (PUSH, b"".as_slice()),
@@ -296,7 +293,7 @@ fn a_write_in_parts_loses_no_byte_up_to_the_one_that_fails(rt: HostRuntime) -> R
         let mut output = Narrow {
             to: ByteSink::new(rt.alloc(), &[failing])?,
         };
-        let mut kept = Texts::new(rt.alloc());
+        let mut kept = Jobs::new(rt.alloc());
         let got = pipe(rt.alloc(), &["pipe"], &mut input, &mut output, &mut kept);
         assert_eq!(rt; got, status);
         assert_eq!(rt; Some(output.to.bytes()), whole.get(..failing as usize));
@@ -309,7 +306,7 @@ fn other_words_call_nothing(rt: HostRuntime) -> Result<(), Fail> {
     for words in [[].as_slice(), &["dance"], &["pipe", "pipe"], &["Pipe"]] {
         let mut input = ByteSource::new(rt.alloc(), HELLO, &[], &[])?;
         let mut output = ByteSink::new(rt.alloc(), &[])?;
-        let mut kept = Texts::new(rt.alloc());
+        let mut kept = Jobs::new(rt.alloc());
         assert_eq!(rt;
             pipe(rt.alloc(), words, &mut input, &mut output, &mut kept),
             2

@@ -3,3 +3,4 @@ pub mod Endings
 pub mod Forms
 pub mod Days
 pub mod Written
+pub mod Decided

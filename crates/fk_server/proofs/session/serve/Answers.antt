@@ -6,7 +6,7 @@ use Rattle.fk_server.proofs.session.serve.Goals as goal
 
 pub returns-in-Err : goal.returns-in-Err
 returns-in-Err g c =
-    not_begun c.in-Err.ended _ _ (written (g.K.Sink.held c.args.output.now) (g.K.Sink.write_faults c.args.output.now)) _ _ _ c.in-Err.ensures.err
+    not_begun c.in-Err.ended _ _ (written (g.K.Sink.held c.args.output.now) (g.K.Sink.write_faults c.args.output.now)) _ _ c.in-Err.ensures.err
 
 pub pieces-init : goal.pieces-init
 pieces-init g c =

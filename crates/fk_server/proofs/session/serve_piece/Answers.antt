@@ -1,6 +1,7 @@
 use Rattle.std.proofs.Common.{take, arith, refl, ap, Ok}
 use Rattle.std.proofs.lemmas.List.{length-take}
 use Rattle.std.proofs.lemmas.Result.{err_from_is_err_and}
+use Rattle.fk_server.proofs.Decided.{laws}
 use Rattle.fk_server.proofs.Ends.{ends_spent, ends_at_read, ends_at_end, piece_served}
 use Rattle.fk_server.proofs.session.serve_piece.Goals as goal
 
@@ -23,7 +24,7 @@ returns-then-count-eq0-clause-stands g c =
 
 pub returns-clause-stands : goal.returns-clause-stands
 returns-clause-stands g c =
-    λ first stands. piece_served c.answer_piece.result first _ _ _ _ _ _ (take c.in_ok-count.count c.read_piece.new.piece) _ _
+    λ first stands. piece_served laws c.answer_piece.result first _ _ _ _ _ _ (take c.in_ok-count.count c.read_piece.new.piece) _ _
     c.requires stands c.in_ok-count.ensures.took
     (omega (arith, length-take c.in_ok-count.count c.read_piece.new.piece, c.in_ok-count.ensures.count.0))
     (omega (arith, length-take c.in_ok-count.count c.read_piece.new.piece, c.in_ok-count.ensures.count.1))
