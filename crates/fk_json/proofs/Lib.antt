@@ -24,3 +24,7 @@ pub mod Between
 pub mod Readings
 pub mod Places
 pub mod ReadTo
+pub mod MemberPlaces
+pub mod Decided
+pub mod Settled
+pub mod Unique
