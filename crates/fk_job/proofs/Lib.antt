@@ -1,2 +1,3 @@
 pub mod Strings
 pub mod Pushing
+pub mod Pieces
