@@ -1,3 +1,4 @@
 pub mod Strings
 pub mod Pushing
 pub mod Pieces
+pub mod Built
