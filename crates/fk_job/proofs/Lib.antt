@@ -2,3 +2,4 @@ pub mod Strings
 pub mod Pushing
 pub mod Pieces
 pub mod Built
+pub mod Spelled
