@@ -3,3 +3,4 @@ pub mod Pushing
 pub mod Pieces
 pub mod Built
 pub mod Spelled
+pub mod Written
