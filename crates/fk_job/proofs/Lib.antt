@@ -4,3 +4,4 @@ pub mod Pieces
 pub mod Built
 pub mod Spelled
 pub mod Written
+pub mod WrittenJob
