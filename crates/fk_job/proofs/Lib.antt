@@ -3,3 +3,8 @@ pub mod Pushing
 pub mod Present
 pub mod FieldsDecided
 pub mod Decided
+pub mod Pieces
+pub mod Built
+pub mod Spelled
+pub mod Written
+pub mod WrittenJob

@@ -4,3 +4,4 @@ pub mod Faults
 pub mod Members
 pub mod Fields
 pub mod JobText
+pub mod Again

@@ -14,7 +14,7 @@ use Rattle.fk_json.specs.declared.span.Span.{Span}
 abbrev IsPlaced : List ℕ → List ℕ → ℕ → ℕ → Type 0
 IsPlaced whole piece from to = (from ≤ to) × (to ≤ length whole) × (slice_range whole from to ≡ piece)
 
-slice_part : (front piece back : List ℕ)
+pub slice_part : (front piece back : List ℕ)
     → slice_range (front ++ (piece ++ back)) (length front) (length front + length piece) ≡ piece
 slice_part front piece back =
     let e : length front + length piece - length front ≡ length piece = omega arith in

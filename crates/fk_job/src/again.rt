@@ -1,0 +1,15 @@
+ghost use Rattle.std.specs.Prelude.{List, ℕ};
+ghost use Rattle.fk_job.specs.Again.{HasCount, HasUtf8Texts, IsSameJob};
+ghost use Rattle.fk_job.specs.JobText.{IsJobOf};
+ghost use Rattle.fk_job.specs.RowText.{row_text};
+ghost use Rattle.fk_job.specs.declared.job.Job.{Job as AJob};
+ghost use Rattle.fk_job.specs.declared.stamp.Stamp.{Stamp as AStamp};
+
+/// Where a text gave a job and its failure's texts are UTF-8, the text that is written for it is
+/// read as a job with the same jid, jobtype, queue, retry, reserve_for and at. The failure's count
+/// is one of 64 bits, as its type has it.
+pub fn a_written_job_is_read_again()
+    ensures { (text : List ℕ) (job : AJob) (stamp : AStamp)
+        → IsJobOf text job → HasCount stamp → HasUtf8Texts stamp
+        → (again : AJob) × IsJobOf (row_text job stamp) again × IsSameJob job again }
+{}
