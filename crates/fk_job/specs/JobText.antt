@@ -73,3 +73,14 @@ HasFault text (TooDeep at) = IsTooDeepAt IsObjectText text at
 HasFault text fault =
     (members : List Member) × IsObjectText most_levels text members
     × IsFirstFault text members fault
+
+-- the job of a text that is one object
+abbrev pub IsJobOf : List ℕ → Job → Type 0
+IsJobOf text job =
+    (members : List Member) × IsObjectText most_levels text members × IsJob text members job
+
+-- the job's names are at most so long
+pub record IsWithin (bound : ℕ) (job : Job) : Type 0 where
+  pub jid : length job.jid ≤ bound
+  pub jobtype : length job.jobtype ≤ bound
+  pub queue : length job.queue ≤ bound

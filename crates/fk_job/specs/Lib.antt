@@ -3,4 +3,5 @@ pub mod RowText
 pub mod Faults
 pub mod Members
 pub mod Fields
+pub mod Values
 pub mod JobText

@@ -1,16 +1,25 @@
 //! The payload of a job: what a producer sends, and what a worker is given.
 #![tactic(auto)]
 
+mod body;
+mod counting;
 mod failure;
 mod fault;
+mod fields;
 mod job;
 mod jobs;
+mod named;
+mod reading;
+#[cfg(test)]
+mod reading_tests;
 mod stamp;
+mod values;
 mod writing;
 
 pub use failure::Failure;
 pub use fault::JobFault;
 pub use job::Job;
 pub use jobs::Jobs;
+pub use reading::read_job;
 pub use stamp::Stamp;
 pub use writing::write_job;
