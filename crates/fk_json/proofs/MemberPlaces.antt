@@ -89,9 +89,9 @@ member_in levels whole front text back at member h place e =
 
 -- what is an item at its place in the whole text is one of the whole
 abbrev Places : {I : Type 0} → (ℕ → List ℕ → I → Type 0) → List ℕ → (I → Type 0) → Type 0
-Places {I} IsItem whole IsPlaced =
+Places {I} IsItem whole IsIn =
     (front text back : List ℕ) (at : ℕ) (item : I) → IsItem at text item → at ≡ length front
-    → whole ≡ front ++ (text ++ back) → IsPlaced item
+    → whole ≡ front ++ (text ++ back) → IsIn item
 
 around_first : (front piece rest back : List ℕ)
     → front ++ ((piece ++ codes "," ++ rest) ++ back) ≡ front ++ (piece ++ (codes "," ++ rest ++ back))
@@ -101,30 +101,30 @@ around_others : (front piece rest back : List ℕ)
     → front ++ ((piece ++ codes "," ++ rest) ++ back) ≡ (front ++ piece ++ codes ",") ++ (rest ++ back)
 around_others front piece rest back = simp append_assoc refl
 
-joined_in : {I : Type 0} (IsItem : ℕ → List ℕ → I → Type 0) (whole : List ℕ) (IsPlaced : I → Type 0)
-    → Places IsItem whole IsPlaced → (front text back : List ℕ) (at : ℕ) (items : List I)
+joined_in : {I : Type 0} (IsItem : ℕ → List ℕ → I → Type 0) (whole : List ℕ) (IsIn : I → Type 0)
+    → Places IsItem whole IsIn → (front text back : List ℕ) (at : ℕ) (items : List I)
     → AreJoined IsItem at text items → at ≡ length front → whole ≡ front ++ (text ++ back)
-    → AllByRecursion IsPlaced items
-joined_in IsItem whole IsPlaced places front text back at [] h place e = absurd h
-joined_in IsItem whole IsPlaced places front text back at (item ∷ []) h place e =
+    → AllByRecursion IsIn items
+joined_in IsItem whole IsIn places front text back at [] h place e = absurd h
+joined_in IsItem whole IsIn places front text back at (item ∷ []) h place e =
     (places front text back at item h place e, tt)
-joined_in IsItem whole IsPlaced places front text back at (item ∷ next ∷ items) (piece, rest, is, are, parts) place e =
+joined_in IsItem whole IsIn places front text back at (item ∷ next ∷ items) (piece, rest, is, are, parts) place e =
     let w = e ∙ ap (λ x. front ++ (x ++ back)) parts in (
       places front piece (codes "," ++ rest ++ back) at item is place (w ∙ around_first front piece rest back),
-      joined_in IsItem whole IsPlaced places (front ++ piece ++ codes ",") rest back (at + length piece + 1)
+      joined_in IsItem whole IsIn places (front ++ piece ++ codes ",") rest back (at + length piece + 1)
       (next ∷ items) are
       (omega (arith, place, length-append (front ++ piece) (codes ","), length-append front piece))
       (w ∙ around_others front piece rest back),
     )
 
-items_in : {I : Type 0} (IsItem : ℕ → List ℕ → I → Type 0) (whole : List ℕ) (IsPlaced : I → Type 0)
-    → Places IsItem whole IsPlaced → (front text back : List ℕ) (at : ℕ) (items : List I)
+items_in : {I : Type 0} (IsItem : ℕ → List ℕ → I → Type 0) (whole : List ℕ) (IsIn : I → Type 0)
+    → Places IsItem whole IsIn → (front text back : List ℕ) (at : ℕ) (items : List I)
     → AreItems IsItem at text items → at ≡ length front → whole ≡ front ++ (text ++ back)
-    → AllByRecursion IsPlaced items
-items_in IsItem whole IsPlaced places front text back at items (inl none) place e =
-    subst (AllByRecursion IsPlaced) (sym none.0) tt
-items_in IsItem whole IsPlaced places front text back at items (inr joined) place e =
-    joined_in IsItem whole IsPlaced places front text back at items joined place e
+    → AllByRecursion IsIn items
+items_in IsItem whole IsIn places front text back at items (inl none) place e =
+    subst (AllByRecursion IsIn) (sym none.0) tt
+items_in IsItem whole IsIn places front text back at items (inr joined) place e =
+    joined_in IsItem whole IsIn places front text back at items joined place e
 
 -- ---- texts
 
@@ -133,12 +133,12 @@ around_inner : (before after inner : List ℕ) (open_byte close : ℕ)
     ≡ (before ++ (open_byte ∷ [])) ++ (inner ++ (close ∷ after))
 around_inner before after inner open_byte close = simp append_assoc refl
 
-between_in : {I : Type 0} (IsItem : ℕ → List ℕ → I → Type 0) (whole : List ℕ) (IsPlaced : I → Type 0)
-    → Places IsItem whole IsPlaced → (before part after inner : List ℕ) (open_byte close : ℕ) (items : List I)
+between_in : {I : Type 0} (IsItem : ℕ → List ℕ → I → Type 0) (whole : List ℕ) (IsIn : I → Type 0)
+    → Places IsItem whole IsIn → (before part after inner : List ℕ) (open_byte close : ℕ) (items : List I)
     → AreItems IsItem (length before + 1) inner items → part ≡ (open_byte ∷ []) ++ inner ++ (close ∷ [])
-    → whole ≡ before ++ part ++ after → AllByRecursion IsPlaced items
-between_in IsItem whole IsPlaced places before part after inner open_byte close items are parts e =
-    items_in IsItem whole IsPlaced places (before ++ (open_byte ∷ [])) inner (close ∷ after) (length before + 1) items
+    → whole ≡ before ++ part ++ after → AllByRecursion IsIn items
+between_in IsItem whole IsIn places before part after inner open_byte close items are parts e =
+    items_in IsItem whole IsIn places (before ++ (open_byte ∷ [])) inner (close ∷ after) (length before + 1) items
     are (omega (arith, length-append before (open_byte ∷ [])))
     (e ∙ ap (λ x. before ++ x ++ after) parts ∙ around_inner before after inner open_byte close)
 
