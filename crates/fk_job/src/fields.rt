@@ -88,11 +88,7 @@ pub(crate) fn retry_of(text: &[u8], members: &[Member]) -> Option<i64>
     }
 }
 
-pub(crate) fn at_of(
-    alloc: Global,
-    text: &[u8],
-    members: &[Member],
-) -> Result<Option<u64>, JobFault>
+pub(crate) fn at_of(alloc: Global, text: &[u8], members: &[Member]) -> Result<Option<u64>, JobFault>
     requires { ArePlaced text.now members.now }
     ensures ok { IfOk result (IsAt text.now members.now) }
     ensures fault { IfErr result (Fails BadAt (IsAt text.now members.now)) }

@@ -45,11 +45,7 @@ pub(crate) fn reserve_in(value: &[u8]) -> Option<u64>
 fn reserve_seconds(number: i64) -> u64
     ensures { result ≡ reserve_seconds number }
 {
-    if number < 60 {
-        1800
-    } else {
-        number as u64
-    }
+    if number < 60 { 1800 } else { number as u64 }
 }
 
 pub(crate) fn retry_in(value: &[u8]) -> Option<i64>
@@ -63,11 +59,7 @@ pub(crate) fn retry_in(value: &[u8]) -> Option<i64>
 fn retries(number: i64) -> i64
     ensures { result ≡ retries number }
 {
-    if number < 0 {
-        -1
-    } else {
-        number
-    }
+    if number < 0 { -1 } else { number }
 }
 
 pub(crate) fn at_in(alloc: Global, value: &[u8]) -> Result<Option<u64>, JobFault>
