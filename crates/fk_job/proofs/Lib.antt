@@ -1,2 +1,6 @@
 pub mod Strings
 pub mod Pushing
+pub mod Finding
+pub mod OneValue
+pub mod Seen
+pub mod Joined

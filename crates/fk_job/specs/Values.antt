@@ -1,17 +1,22 @@
 -- What the value of a job's member says, and when none is said.
-use Rattle.std.specs.Prelude.{◌≡◌, ◌⊎◌, ℕ, ◌<◌, ◌≤ℤ◌, ◌++◌, ℤ, pos, not, Bool, List, [], ◌∷◌, Option, length, codes}
+use Rattle.std.specs.Prelude.{◌≡◌, ◌⊎◌, ℕ, ◌<◌, ◌≤ℤ◌, ◌++◌, ℤ, pos, not, ◌&&◌, if◌then◌else◌, Bool, List, [], ◌∷◌, Option, length, codes}
 use Rattle.std.specs.List.{AllByRecursion, list_any}
 use Rattle.fk_json.specs.String.{IsString}
+use Rattle.fk_json.specs.Json.{IsValue}
 use Rattle.fk_json.specs.Members.{IsMemberIn, inner_levels}
 use Rattle.fk_json.specs.declared.member.Member.{Member}
 use Rattle.fk_job.specs.declared.fault.JobFault.{JobFault}
 use Rattle.fk_job.specs.declared.fault.JobFault.TheVariants.{NoMemory}
-use Rattle.fk_job.specs.Members.{is_named}
+use Rattle.fk_job.specs.Members.{is_handed_on, is_named, sent_member}
 use Rattle.fk_job.specs.Fields.{HasString, IsInteger64, IsMomentOf, IsQueueNamed, most_reserve, reserve_seconds, retries}
 
 -- the members stand in the text
 abbrev pub ArePlaced : List ℕ → List Member → Type 0
 ArePlaced text members = AllByRecursion (IsMemberIn inner_levels text) members
+
+-- a value of some depth
+abbrev pub IsSomeValue : List ℕ → Type 0
+IsSomeValue value = (levels : ℕ) × IsValue levels value
 
 -- a `jobtype`
 abbrev pub IsType : List ℕ → List Member → List ℕ → Type 0
@@ -47,3 +52,8 @@ counting_flags (member ∷ members) =
 abbrev pub joined : List ℕ → List ℕ → List ℕ
 joined [] piece = piece
 joined (first ∷ text) piece = first ∷ text ++ codes "," ++ piece
+
+-- the text with a member behind it, where it counts and is handed on
+abbrev pub with_counting : List ℕ → Bool → List ℕ → Member → List ℕ
+with_counting text counts body member =
+    if counts && is_handed_on text member then joined body (sent_member text member) else body

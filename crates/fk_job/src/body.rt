@@ -1,10 +1,11 @@
 // The members of a job that are handed on to the worker.
 ghost use Rattle.std.specs.Prelude.{◌≡◌, IfOk, OnOk};
 ghost use Rattle.fk_json.specs.Members.{IsMemberIn, inner_levels};
-ghost use Rattle.fk_job.specs.Members.{body_of, is_handed_on, sent_member, sent_value};
-ghost use Rattle.fk_job.specs.Values.{ArePlaced, joined};
+ghost use Rattle.fk_job.specs.Members.{body_of, is_handed_on, sent_member};
+ghost use Rattle.fk_job.specs.Values.{ArePlaced, joined, with_counting};
 
 use crate::counting::counting_flags;
+use crate::named::sent_value;
 use fk_json::{Member, Text};
 use std::alloc::{AllocError, Global};
 
@@ -17,12 +18,28 @@ pub(crate) fn body_of(alloc: Global, text: &[u8], members: &[Member]) -> Result<
     let mut body = Text::fixed(alloc, b"");
     let mut at = 0;
     'members: while at < members.len() {
-        if flags[at] && is_handed_on(text, &members[at]) {
-            push_sent(&mut body, text, &members[at])?;
-        }
+        push_counting(&mut body, text, &members[at], flags[at])?;
         at += 1;
     }
     Ok(body)
+}
+
+// Adds a member that counts, if it is handed on.
+fn push_counting(
+    body: &mut Text,
+    text: &[u8],
+    member: &Member,
+    counts: bool,
+) -> Result<(), AllocError>
+    requires { IsMemberIn inner_levels text.now member.now }
+    ensures { OnOk result (body.new
+        ≡ with_counting text.now counts body.old member.now) }
+{
+    if counts && is_handed_on(text, member) {
+        push_sent(body, text, member)
+    } else {
+        Ok(())
+    }
 }
 
 // What the server writes itself isn't handed on.
@@ -34,8 +51,7 @@ fn is_handed_on(text: &[u8], member: &Member) -> bool
     name != b"queue".as_slice()
         && name != b"enqueued_at".as_slice()
         && name != b"failure".as_slice()
-        && !(name == b"created_at".as_slice()
-            && &text[member.from..member.to] == b"null".as_slice())
+        && !(name == b"created_at".as_slice() && sent_value(text, member) == b"null".as_slice())
 }
 
 // Adds a member as it was sent, without the white space around its colon.
@@ -48,5 +64,5 @@ fn push_sent(body: &mut Text, text: &[u8], member: &Member) -> Result<(), AllocE
     }
     body.push_bytes(&text[member.name_from..member.name_to])?;
     body.push_bytes(b":")?;
-    body.push_bytes(&text[member.from..member.to])
+    body.push_bytes(sent_value(text, member))
 }

@@ -7,7 +7,7 @@ ghost use Rattle.fk_job.specs.declared.fault.JobFault.TheVariants.{BadAt, BadQue
 
 use crate::JobFault;
 use crate::named::{given_value, string_of, value_of};
-use crate::values::{at_in, queue_in, reserve_in, retry_in};
+use crate::values::{at_in, is_array, queue_in, reserve_in, retry_in};
 use fk_json::{Member, Text};
 use std::alloc::Global;
 
@@ -44,13 +44,12 @@ pub(crate) fn type_of(alloc: Global, text: &[u8], members: &[Member]) -> Result<
     Ok(jobtype)
 }
 
-// A value that begins with a bracket is an array.
 pub(crate) fn has_args(text: &[u8], members: &[Member]) -> bool
     requires { ArePlaced text.now members.now }
     ensures { IsTrue result ↔ HasArray text.now members.now (codes "args") }
 {
     match value_of(text, members, b"args") {
-        Some(value) => value.first() == Some(&b'['),
+        Some(value) => is_array(value),
         None => false,
     }
 }

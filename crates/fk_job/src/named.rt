@@ -1,11 +1,10 @@
 // The members of a job's text by name.
 ghost use Rattle.std.specs.Prelude.{◌≡◌, ℕ, List, Ok, None, find, reverse, IfOk, IfSome};
 ghost use Rattle.std.specs.Option.{option_copied};
-ghost use Rattle.fk_json.specs.Json.{IsValue};
-ghost use Rattle.fk_json.specs.Members.{inner_levels};
+ghost use Rattle.fk_json.specs.Members.{IsMemberIn, inner_levels};
 ghost use Rattle.fk_job.specs.Fields.{HasString};
-ghost use Rattle.fk_job.specs.Members.{given_value, is_named, value_of};
-ghost use Rattle.fk_job.specs.Values.{ArePlaced};
+ghost use Rattle.fk_job.specs.Members.{given_value, is_named, sent_value, value_of};
+ghost use Rattle.fk_job.specs.Values.{ArePlaced, IsSomeValue};
 
 use fk_json::{Member, Text, string_value};
 use std::alloc::{AllocError, Global};
@@ -17,21 +16,31 @@ fn last_named<'a>(members: &'a [Member], name: &[u8]) -> Option<&'a Member>
     let mut at = members.len();
     'members: while at > 0 {
         at -= 1;
-        if members[at].name.bytes() == name {
-            return Some(&members[at]);
+        let member = &members[at];
+        if member.name.bytes() == name {
+            return Some(member);
         }
     }
     None
+}
+
+// A member's value, as it was sent.
+pub(crate) fn sent_value<'a>(text: &'a [u8], member: &Member) -> &'a [u8]
+    requires { IsMemberIn inner_levels text.now member.now }
+    ensures same { result.now ≡ sent_value text.now member.now }
+    ensures valued { IsSomeValue result.now }
+{
+    &text[member.from..member.to]
 }
 
 // The value of the last member of a name, as it was sent.
 pub(crate) fn value_of<'a>(text: &'a [u8], members: &[Member], name: &[u8]) -> Option<&'a [u8]>
     requires { ArePlaced text.now members.now }
     ensures same { option_copied result ≡ value_of text.now members.now name.now }
-    ensures valued { IfSome result (λ value. IsValue inner_levels value.now) }
+    ensures valued { IfSome result (λ value. IsSomeValue value.now) }
 {
     match last_named(members, name) {
-        Some(member) => Some(&text[member.from..member.to]),
+        Some(member) => Some(sent_value(text, member)),
         None => None,
     }
 }

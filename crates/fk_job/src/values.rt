@@ -1,13 +1,25 @@
 // What the value of a member says, which is there and isn't null.
-ghost use Rattle.std.specs.Prelude.{◌≡◌, ℕ, ℤ, IfErr, IfNone, IfOk, IfSome};
-ghost use Rattle.fk_job.specs.Fields.{is_queue_byte, reserve_seconds, retries};
-ghost use Rattle.fk_job.specs.Values.{Fails, IsAtIn, IsQueueIn, IsReserveIn, IsRetryIn};
+ghost use Rattle.std.specs.Prelude.{◌≡◌, ◌↔◌, ℕ, ℤ, IfErr, IfNone, IfOk, IfSome, IsTrue};
+ghost use Rattle.std.specs.List.{AllPass};
+ghost use Rattle.fk_job.specs.Fields.{IsArrayValue, is_queue_byte, reserve_seconds, retries};
+ghost use Rattle.fk_job.specs.Values.{Fails, IsAtIn, IsQueueIn, IsReserveIn, IsRetryIn, IsSomeValue};
 ghost use Rattle.fk_job.specs.declared.fault.JobFault.TheVariants.{BadAt, BadQueue};
 
 use crate::JobFault;
 use fk_json::{Text, integer_value, string_value};
 use fk_time::read_moment;
 use std::alloc::Global;
+
+// A value that begins with a bracket is an array.
+pub(crate) fn is_array(value: &[u8]) -> bool
+    requires { IsSomeValue value.now }
+    ensures { IsTrue result ↔ IsArrayValue value.now }
+{
+    match value.first() {
+        Some(byte) => *byte == b'[',
+        None => false,
+    }
+}
 
 pub(crate) fn queue_in(alloc: Global, value: &[u8]) -> Result<Text, JobFault>
     ensures ok { IfOk result (IsQueueIn value.now) }
@@ -19,10 +31,17 @@ pub(crate) fn queue_in(alloc: Global, value: &[u8]) -> Result<Text, JobFault>
     if name.is_empty() {
         return Ok(Text::fixed(alloc, b"default"));
     }
-    if !name.bytes().iter().all(|byte| is_queue_byte(*byte)) {
-        return Err(JobFault::BadQueue);
+    if is_queue_name(name.bytes()) {
+        Ok(name)
+    } else {
+        Err(JobFault::BadQueue)
     }
-    Ok(name)
+}
+
+fn is_queue_name(name: &[u8]) -> bool
+    ensures { IsTrue result ↔ AllPass is_queue_byte name.now }
+{
+    name.iter().all(|byte| is_queue_byte(*byte))
 }
 
 fn is_queue_byte(byte: u8) -> bool
