@@ -25,3 +25,6 @@ pub mod Readings
 pub mod Places
 pub mod ReadTo
 pub mod MemberPlaces
+pub mod Decided
+pub mod Settled
+pub mod Unique
