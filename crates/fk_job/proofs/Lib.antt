@@ -3,5 +3,7 @@ pub mod Pushing
 pub mod Finding
 pub mod OneValue
 pub mod FirstFault
+pub mod OneJob
+pub mod Within
 pub mod Seen
 pub mod Joined

@@ -1,5 +1,5 @@
 -- What the value of a member says is one thing, and when it says none.
-use Rattle.std.proofs.Common.{◌≡◌, ◌≢◌, ◌⊎◌, ◌↔◌, inl, inr, ℕ, zero, suc, ◌<◌, ◌≤◌, ℤ, Bool, true, false, List, [], ◌∷◌, length, slice_get, Option, None, Some, Result, Ok, IfNone, IfSome, MatchOption, IsTrue, codes, refl, sym, ap, subst, ◌∙◌, arith}
+use Rattle.std.proofs.Common.{◌≡◌, ◌≢◌, ◌↔◌, ℕ, zero, suc, ◌<◌, Bool, false, List, [], ◌∷◌, length, slice_get, Option, None, Some, Result, Ok, IfNone, MatchOption, IsTrue, codes, refl, sym, ap, subst, ◌∙◌, arith}
 use Rattle.std.proofs.lemmas.Bool.{false≢true}
 use Rattle.std.specs.List.{AllPass}
 use Rattle.fk_json.specs.String.{IsString}

@@ -1,7 +1,8 @@
 // A job from its text.
-ghost use Rattle.std.specs.Prelude.{◌≡◌, ◌⊎◌, length, IfErr, IfOk};
+ghost use Rattle.std.specs.Prelude.{◌≡◌, ◌⊎◌, length, IfErr, IfOk, MatchResult};
 ghost use Rattle.fk_job.specs.JobText.{HasFault, IsFirstFault, IsJob, IsJobOf, IsWithin};
 ghost use Rattle.fk_job.specs.Values.{ArePlaced};
+ghost use Rattle.fk_job.specs.declared.job.Job as declared_job;
 ghost use Rattle.fk_job.specs.declared.fault.JobFault.TheVariants.{NoMemory};
 
 use crate::body::body_of;
@@ -21,6 +22,9 @@ use std::alloc::Global;
 pub fn read_job(alloc: Global, text: &[u8]) -> Result<Job, JobFault>
     ensures ok { IfOk result (λ job. IsJobOf text.now job) }
     ensures fault { IfErr result (λ fault. (fault ≡ NoMemory) ⊎ HasFault text.now fault) }
+    // Each text that has a job is read, where there is memory, and has no other job.
+    ensures whole { (job : declared_job.Job) → IsJobOf text.now job
+        → MatchResult result (λ found. found ≡ job) (λ fault. fault ≡ NoMemory) }
     ensures short { IfOk result (λ job. IsWithin (length text.now) job) }
 {
     let members = scan_object(alloc, text)?;

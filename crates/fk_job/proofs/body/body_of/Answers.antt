@@ -1,4 +1,4 @@
-use Rattle.std.proofs.Common.{◌+◌, ap, length, subst, sym, arith}
+use Rattle.std.proofs.Common.{ap, length, subst, sym, arith}
 use Rattle.std.proofs.lemmas.List.Elements.{All-from_recursion}
 use Rattle.fk_json.specs.Members.{IsMemberIn, inner_levels}
 use Rattle.fk_job.proofs.Joined.{as_many, none_written, one_written}

@@ -1,5 +1,4 @@
-use Rattle.std.proofs.Common.{inr, refl, subst}
-use Rattle.fk_time.specs.Reading.{IsMomentText}
+use Rattle.std.proofs.Common.{inr, refl}
 use Rattle.fk_job.proofs.OneValue.{bad_moment, no_string, some_text}
 use Rattle.fk_job.proofs.values.at_in.Goals as goal
 
