@@ -8,3 +8,10 @@ pub mod Built
 pub mod Spelled
 pub mod Written
 pub mod WrittenJob
+pub mod Finding
+pub mod OneValue
+pub mod FirstFault
+pub mod OneJob
+pub mod Within
+pub mod Seen
+pub mod Joined

@@ -74,7 +74,13 @@ HasFault text fault =
     (members : List Member) × IsObjectText most_levels text members
     × IsFirstFault text members fault
 
--- the text is a job, and this one
+-- the job of a text that is one object
 abbrev pub IsJobOf : List ℕ → Job → Type 0
 IsJobOf text job =
     (members : List Member) × IsObjectText most_levels text members × IsJob text members job
+
+-- the job's names are at most so long
+pub record IsWithin (bound : ℕ) (job : Job) : Type 0 where
+  pub jid : length job.jid ≤ bound
+  pub jobtype : length job.jobtype ≤ bound
+  pub queue : length job.queue ≤ bound

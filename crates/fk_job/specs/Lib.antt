@@ -3,5 +3,6 @@ pub mod RowText
 pub mod Faults
 pub mod Members
 pub mod Fields
+pub mod Values
 pub mod JobText
 pub mod Again

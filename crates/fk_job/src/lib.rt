@@ -2,12 +2,19 @@
 #![tactic(auto)]
 
 mod again;
+mod body;
+mod counting;
 mod failure;
 mod fault;
+mod fields;
 mod job;
 mod jobs;
+mod named;
 mod reading;
+#[cfg(test)]
+mod reading_tests;
 mod stamp;
+mod values;
 mod writing;
 
 pub use again::a_written_job_is_read_again;

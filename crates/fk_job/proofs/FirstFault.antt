@@ -1,0 +1,36 @@
+-- The first fault of a text's members is the fault of the text.
+use Rattle.std.proofs.Common.{◌≡◌, ◌⊎◌, inl, inr, ℕ, List, Result, Ok, Err, IfErr}
+use Rattle.fk_json.specs.declared.member.Member.{Member}
+use Rattle.fk_json.specs.Json.{IsObjectText, most_levels}
+use Rattle.fk_job.specs.declared.fault.JobFault.{JobFault}
+use Rattle.fk_job.specs.declared.fault.JobFault.TheVariants.{NoJid, ShortJid, NoType, NoArgs, BadQueue, BadReserve, BadRetry, BadAt, Syntax, TooDeep, NoMemory}
+use Rattle.fk_job.specs.JobText.{HasFault, IsFirstFault}
+
+first_of : (text : List ℕ) (members : List Member) (fault : JobFault) → IsObjectText most_levels text members
+    → IsFirstFault text members fault → HasFault text fault
+first_of text members (Syntax at) is first = absurd first
+first_of text members (TooDeep at) is first = absurd first
+first_of text members NoMemory is first = absurd first
+first_of text members NoJid is first = (members, is, first)
+first_of text members ShortJid is first = (members, is, first)
+first_of text members NoType is first = (members, is, first)
+first_of text members NoArgs is first = (members, is, first)
+first_of text members BadQueue is first = (members, is, first)
+first_of text members BadReserve is first = (members, is, first)
+first_of text members BadRetry is first = (members, is, first)
+first_of text members BadAt is first = (members, is, first)
+
+-- the first fault, or want of memory
+abbrev pub Told : List ℕ → List Member → JobFault → Type 0
+Told text members fault = (fault ≡ NoMemory) ⊎ IsFirstFault text members fault
+
+told : (text : List ℕ) (members : List Member) (fault : JobFault) → IsObjectText most_levels text members
+    → Told text members fault → (fault ≡ NoMemory) ⊎ HasFault text fault
+told text members fault is (inl memory) = inl memory
+told text members fault is (inr first) = inr (first_of text members fault is first)
+
+pub told_err : {X : Type 0} (r : Result X JobFault) (text : List ℕ) (members : List Member)
+    → IsObjectText most_levels text members → IfErr r (Told text members)
+    → IfErr r (λ fault. (fault ≡ NoMemory) ⊎ HasFault text fault)
+told_err (Ok x) text members is first = tt
+told_err (Err fault) text members is first = told text members fault is first

@@ -1,0 +1,24 @@
+// Which members count: those that no later member of their name follows.
+ghost use Rattle.std.specs.Prelude.{◌≡◌, IfOk};
+ghost use Rattle.fk_job.specs.Values.{counting_flags};
+
+use fk_json::Member;
+use std::alloc::{AllocError, Global};
+use std::collections::BTreeSet;
+
+// Looks from the last member to the first, with the names seen in order, so that many members of a
+// few names or of many take about as long.
+pub(crate) fn counting_flags(alloc: Global, members: &[Member]) -> Result<Vec<bool>, AllocError>
+    ensures { IfOk result (λ flags. flags.items ≡ counting_flags members.now) }
+{
+    let mut names = BTreeSet::new(alloc);
+    let mut flags = Vec::new(alloc);
+    let mut at = members.len();
+    'members: while at > 0 {
+        at -= 1;
+        let is_new = names.insert(members[at].name.bytes())?;
+        flags.push(is_new)?;
+    }
+    flags.reverse();
+    Ok(flags)
+}
