@@ -12,7 +12,6 @@ use Rattle.fk_frame.specs.declared.line_reader.Line.TheVariants.{Whole, Need, To
 use Rattle.fk_frame.specs.declared.reply.Reply.TheVariants.{Status, Bulk}
 use Rattle.fk_job.specs.declared.fault.JobFault.{JobFault}
 use Rattle.fk_job.specs.declared.job.Job.{Job}
-use Rattle.fk_job.specs.Fields.{HasString}
 use Rattle.fk_job.specs.JobText.{HasFault, HasJid, IsJobOf}
 use Rattle.fk_job.specs.Members.{value_of}
 use Rattle.fk_model.specs.declared.item.Phase.{Phase}

@@ -1,6 +1,5 @@
 -- Lines that are answered one after another.
-use Rattle.std.proofs.Common.{◌≡◌, ◌≢◌, ◌⊎◌, ℕ, List, [], ◌∷◌, ◌++◌, Result, Ok, Err, inl, inr, refl}
-use Rattle.std.proofs.lemmas.List.{append-nil}
+use Rattle.std.proofs.Common.{◌≡◌, ◌≢◌, ℕ, List, [], ◌∷◌, ◌++◌, Result, Ok, Err, inl, inr, refl}
 use Rattle.std.specs.Result.{OnOk, IfErr}
 use Rattle.fk_io.specs.declared.fault.Ended.{Ended}
 use Rattle.fk_io.specs.declared.fault.Ended.TheVariants.{NoMemory}

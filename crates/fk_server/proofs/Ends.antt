@@ -14,11 +14,11 @@ use Rattle.fk_model.specs.declared.item.Phase.{Phase}
 use Rattle.fk_model.specs.declared.item.Phase.TheVariants.{Greeted, Over}
 use Rattle.fk_model.specs.Payloads.{Given}
 use Rattle.fk_model.specs.Script.{IsScript, greeting, kept_jobs, output, replies}
-use Rattle.fk_model.specs.Advance.{Advances, IsIdle}
+use Rattle.fk_model.specs.Advance.{IsIdle}
 use Rattle.fk_model.proofs.Advance.{stays, joined, fed, script_is, over_is, not_over, begins_script}
 use Rattle.fk_model.proofs.Total.{Laws, script_total}
 use Rattle.fk_server.specs.Session.{Setting, setting, Begins, IsAnswered, IsKeptSoFar, HasEnded, IsSession}
-use Rattle.fk_server.specs.Answering.{Written, written, Wrote, Broke, Starved, Stops, StopsWriting, Results, results, KeptSoFar, StopsGiving, standing, Answers, StopsAnswering, Stands}
+use Rattle.fk_server.specs.Answering.{Written, written, Wrote, Broke, Starved, Stops, StopsWriting, Results, results, KeptSoFar, standing, Answers, StopsAnswering, Stands}
 use Rattle.fk_server.specs.declared.session.TheConstants.{PIECE, TAKEN_MAX}
 use Rattle.fk_server.proofs.Giving.{replies-append, keeps_both, kept_behind, starved_first}
 use Rattle.fk_server.proofs.Writing.{part_behind, begins_behind, part_of_more, begins_more}

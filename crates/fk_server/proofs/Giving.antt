@@ -10,8 +10,7 @@ use Rattle.fk_frame.specs.Replies.{reply_bytes}
 use Rattle.fk_job.specs.declared.job.Job.{Job}
 use Rattle.fk_model.specs.Payloads.{Given}
 use Rattle.fk_model.specs.Script.{kept_jobs, replies}
-use Rattle.fk_server.specs.Session.{Begins}
-use Rattle.fk_server.specs.Answering.{Written, Wrote, Stops, StopsWriting, Results, Gives, KeptSoFar, StopsGiving}
+use Rattle.fk_server.specs.Answering.{Wrote, StopsWriting, Results, Gives, KeptSoFar, StopsGiving}
 use Rattle.fk_server.proofs.Writing.{wrote_nothing, wrote_both, starved_at_once, begins_behind, stopped_begins, stops_behind}
 
 pub replies-append : (xs ys : List Given) → replies (xs ++ ys) ≡ replies xs ++ replies ys

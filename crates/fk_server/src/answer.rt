@@ -1,4 +1,4 @@
-ghost use Rattle.std.specs.Prelude.{◌≡◌, ◌++◌, [], ◌∷◌, IfErr, IfSome, OnErr, OnOk};
+ghost use Rattle.std.specs.Prelude.{◌≡◌, [], ◌∷◌, IfErr, IfSome, OnOk};
 ghost use Rattle.fk_frame.specs.declared.line_reader.Line.TheVariants.{Whole};
 ghost use Rattle.fk_frame.specs.Replies.{IsWellFormed};
 ghost use Rattle.fk_model.specs.Advance.{IsIdle};
