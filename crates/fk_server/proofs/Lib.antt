@@ -2,5 +2,4 @@ pub mod Writing
 pub mod Giving
 pub mod Answering
 pub mod Ends
-pub mod Decided
 pub mod Words

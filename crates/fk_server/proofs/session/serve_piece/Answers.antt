@@ -1,7 +1,7 @@
 use Rattle.std.proofs.Common.{take, arith, refl, ap, Ok}
 use Rattle.std.proofs.lemmas.List.{length-take}
 use Rattle.std.proofs.lemmas.Result.{err_from_is_err_and}
-use Rattle.fk_server.proofs.Decided.{laws}
+use Rattle.fk_model.proofs.Payload.{laws}
 use Rattle.fk_server.proofs.Ends.{ends_spent, ends_at_read, ends_at_end, piece_served}
 use Rattle.fk_server.proofs.session.serve_piece.Goals as goal
 
