@@ -1,5 +1,3 @@
-pub mod Numbers
-pub mod Forms
 pub mod Integers
 pub mod Parts
 pub mod Utf8Strings

@@ -9,7 +9,7 @@ use Rattle.fk_json.specs.Tokens.{StringLeft, string_step}
 use Rattle.fk_json.specs.Moves.{innermost, most_inner}
 use Rattle.fk_json.specs.Left.{Fits, Item, Pending}
 use Rattle.fk_json.specs.Standing.{closed_in, moved, placed}
-use Rattle.fk_json.specs.Remainder.{Adds, IsKnown, IsTextOf, LevelsLeft, NameRest, name_text, pending_of}
+use Rattle.fk_json.specs.Remainder.{Adds, IsKnown, LevelsLeft, NameRest, name_text, pending_of}
 use Rattle.fk_json.specs.declared.mode.Bracket.{Bracket}
 use Rattle.fk_json.specs.declared.mode.Bracket.TheVariants.{Array, Object}
 use Rattle.fk_json.specs.declared.mode.Mode.{Mode}
@@ -19,7 +19,7 @@ use Rattle.fk_json.specs.declared.mode.Move.TheVariants.{To, Names, Begins, Open
 use Rattle.fk_json.specs.declared.standing.Found.{Found}
 use Rattle.fk_json.specs.declared.standing.Places.{Places}
 use Rattle.fk_json.specs.declared.standing.Region.{Region}
-use Rattle.fk_json.specs.declared.standing.Region.TheVariants.{Before, Between, Behind}
+use Rattle.fk_json.specs.declared.standing.Region.TheVariants.{Between}
 use Rattle.fk_json.specs.declared.standing.Standing.{Standing}
 use Rattle.fk_json.specs.declared.standing.Step.{Step}
 use Rattle.fk_json.specs.declared.standing.Step.TheVariants as step

@@ -1,5 +1,4 @@
 pub mod Text
-pub mod Plain
 pub mod String
 pub mod Number
 pub mod Tokens

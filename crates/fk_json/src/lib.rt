@@ -1,5 +1,4 @@
-//! Texts as lists of bytes, JSON with the places of its parts, and the plain form of a job that
-//! stands in for JSON where a job is read.
+//! Texts as lists of bytes, and JSON read with the places of its parts.
 #![tactic(auto)]
 
 mod brackets;
@@ -11,7 +10,6 @@ mod number;
 mod number_mode;
 mod pairs;
 mod piece;
-mod plain;
 mod scan;
 #[cfg(test)]
 mod scan_part_tests;
@@ -31,7 +29,6 @@ pub use fault::JsonFault;
 pub use member::{Member, Members};
 pub use number::integer_value;
 pub use pairs::Pairs;
-pub use plain::plain_form;
 pub use scan::{scan_array, scan_object};
 pub use span::{Span, Spans};
 pub use string::{push_string, string_value};
