@@ -24,3 +24,4 @@ pub mod Between
 pub mod Readings
 pub mod Places
 pub mod ReadTo
+pub mod MemberPlaces

@@ -5,6 +5,10 @@ use Rattle.fk_json.specs.Json.{IsValue}
 use Rattle.fk_json.specs.declared.member.Member.{Member}
 use Rattle.fk_json.specs.declared.span.Span.{Span}
 
+-- the levels of a value in a text of at most 127
+abbrev pub inner_levels : ℕ
+inner_levels = 126
+
 -- a member of a text: its name with the quotes and its value, of at most so many levels, stand at
 -- their places
 pub record IsMemberIn (levels : ℕ) (text : List ℕ) (member : Member) : Type 0 where

@@ -1,7 +1,9 @@
 // Object texts and array texts, read whole (RFC 8259, section 2).
 ghost use Rattle.std.specs.Prelude.{◌≡◌, ◌∷◌, ◌++◌, ℕ, List, [], MatchOption, MatchResult, IfErr, IfOk, OnOk};
+ghost use Rattle.std.specs.List.{AllByRecursion};
 ghost use Rattle.fk_json.specs.Json.{Faults, IsArrayText, IsObjectText, most_levels};
 ghost use Rattle.fk_json.specs.Left.{ended};
+ghost use Rattle.fk_json.specs.Members.{IsElementIn, IsMemberIn, inner_levels};
 ghost use Rattle.fk_json.specs.Remainder.{Adds, HasName, IsKnown, pending_of};
 ghost use Rattle.fk_json.specs.declared.fault.JsonFault.TheVariants.{NoMemory};
 ghost use Rattle.fk_json.specs.declared.member.Member as declared_member;
@@ -17,6 +19,7 @@ use std::alloc::{AllocError, Global};
 /// names decoded. At most 127 levels of brackets are read.
 pub fn scan_object(alloc: Global, text: &[u8]) -> Result<Members, JsonFault>
     ensures ok { IfOk result (λ members. IsObjectText most_levels text.now members) }
+    ensures placed { IfOk result (λ members. AllByRecursion (IsMemberIn inner_levels text.now) members) }
     ensures fault { IfErr result (λ fault. Faults IsObjectText text.now fault) }
     // Each such text of at most 127 levels is read, where there is memory, and has no other members.
     ensures whole { (members : List declared_member.Member) → IsObjectText most_levels text.now members
@@ -47,6 +50,7 @@ pub fn scan_object(alloc: Global, text: &[u8]) -> Result<Members, JsonFault>
 /// levels of brackets are read.
 pub fn scan_array(alloc: Global, text: &[u8]) -> Result<Spans, JsonFault>
     ensures ok { IfOk result (λ elements. IsArrayText most_levels text.now elements) }
+    ensures placed { IfOk result (λ elements. AllByRecursion (IsElementIn inner_levels text.now) elements) }
     ensures fault { IfErr result (λ fault. Faults IsArrayText text.now fault) }
     // Each such text of at most 127 levels is read, where there is memory, and has no other elements.
     ensures whole { (elements : List declared_span.Span) → IsArrayText most_levels text.now elements

@@ -2,6 +2,8 @@ use Rattle.std.proofs.Common.{refl, sym, ◌∙◌}
 use Rattle.fk_json.specs.Json.{most_levels}
 use Rattle.fk_json.specs.Remainder.{IsTextOf}
 use Rattle.fk_json.specs.declared.mode.Bracket.TheVariants.{Array}
+use Rattle.fk_json.specs.Members.{inner_levels}
+use Rattle.fk_json.proofs.MemberPlaces.{elements_in}
 use Rattle.fk_json.proofs.ReadTo.{deep_none, read_deep, read_early, read_ended, read_adds, read_starts, read_stops, any_text}
 use Rattle.fk_json.proofs.scan.scan_array.Goals as goal
 
@@ -43,6 +45,12 @@ pub returns-then-is_whole-clause-ok : goal.returns-then-is_whole-clause-ok
 returns-then-is_whole-clause-ok c =
     (read_ended Array c.args.text.now c.bytes.at c.bytes.elements c.bytes.elements c.bytes.standing c.bytes-test.false
     c.bytes.invariant (sym c.is_whole.ensures ∙ c.if-is_whole.true)).1 refl
+
+pub returns-then-is_whole-clause-placed : goal.returns-then-is_whole-clause-placed
+returns-then-is_whole-clause-placed c =
+    elements_in inner_levels c.args.text.now c.bytes.elements
+    ((read_ended Array c.args.text.now c.bytes.at c.bytes.elements c.bytes.elements c.bytes.standing c.bytes-test.false
+    c.bytes.invariant (sym c.is_whole.ensures ∙ c.if-is_whole.true)).1 refl)
 
 pub returns-then-is_whole-clause-whole : goal.returns-then-is_whole-clause-whole
 returns-then-is_whole-clause-whole c = λ items is.
