@@ -57,6 +57,13 @@ impl Members {
         self.members.get(at)
     }
 
+    /// All members, in order.
+    pub fn as_slice(&self) -> &[Member]
+        ensures { result.now ≡ self.now }
+    {
+        &self.members
+    }
+
     /// The number of members.
     pub fn len(&self) -> usize
         ensures { result ≡ length self.now }

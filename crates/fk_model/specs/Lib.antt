@@ -1,4 +1,5 @@
 pub mod Commands
 pub mod Payloads
+pub mod Items
 pub mod Script
 pub mod Advance
