@@ -9,20 +9,19 @@ use Rattle.std.proofs.lemmas.List.Splits.{slice_split_none, slice_split_at, slic
 use Rattle.std.proofs.lemmas.List.Sums.{split_at_first, fails_before_first, passes_at_first, prefix_len-le-length}
 use Rattle.fk_frame.specs.declared.line_reader.Line.{Line}
 use Rattle.fk_frame.specs.declared.line_reader.Line.TheVariants.{Whole, TooLong}
-use Rattle.fk_frame.specs.declared.line_reader.TheConstants.{LINE_MAX}
 use Rattle.fk_frame.specs.Bytes.{line_feed, is_line_feed}
-use Rattle.fk_frame.specs.Lines.{lines_in, lines_of, is_too_long, without_return}
+use Rattle.fk_frame.specs.Lines.{longest_line, lines_in, lines_of, is_too_long, without_return}
 use Rattle.fk_frame.specs.Reading.{front_of}
 
 -- what the test of a line's length says, by that length
-fits : (part : List ℕ) → length part ≤ LINE_MAX → is_too_long part ≡ false
+fits : (part : List ℕ) → length part ≤ longest_line → is_too_long part ≡ false
 fits part short = grind (arith, nat_tests)
 
-exceeds : (part : List ℕ) → LINE_MAX < length part → is_too_long part ≡ true
+exceeds : (part : List ℕ) → longest_line < length part → is_too_long part ≡ true
 exceeds part long = grind (arith, nat_tests)
 
 -- a stream without a line feed that fits into a line has no line
-pub no_lines : (stream : List ℕ) → ¬ Contains stream line_feed → length stream ≤ LINE_MAX
+pub no_lines : (stream : List ℕ) → ¬ Contains stream line_feed → length stream ≤ longest_line
     → lines_of stream ≡ []
 no_lines stream none short =
     let fails : All (λ byte. is_line_feed byte ≡ false) stream =
@@ -57,14 +56,14 @@ parts_first stream more held =
     (passes_at_first is_line_feed stream line_feed (within stream held))
 
 -- a part that fits, with another part behind it, is a whole line
-lines_in_more : (part : List ℕ) (parts : List (List ℕ)) → 0 < length parts → length part ≤ LINE_MAX
+lines_in_more : (part : List ℕ) (parts : List (List ℕ)) → 0 < length parts → length part ≤ longest_line
     → lines_in (part ∷ parts) ≡ Whole (without_return part) ∷ lines_in parts
 lines_in_more part [] some short = absurd (omega arith)
 lines_in_more part (next ∷ parts) some short = rw (fits part short) refl
 
 -- the lines of a stream are its first line and those of what is behind that, however the stream goes on
 pub first_then_rest : (stream more : List ℕ) → Contains stream line_feed
-    → length (front_of stream) ≤ LINE_MAX
+    → length (front_of stream) ≤ longest_line
     → lines_of (stream ++ more)
     ≡ Whole (without_return (front_of stream)) ∷ lines_of (after_first is_line_feed stream ++ more)
 first_then_rest stream more ended short =
@@ -96,7 +95,7 @@ begins_long part [] long = ([], rw long refl)
 begins_long part (next ∷ parts) long = (lines_in (next ∷ parts), rw long refl)
 
 -- where the first line is too long, it is the first of the lines
-pub long_first : (stream : List ℕ) → LINE_MAX < length (front_of stream)
+pub long_first : (stream : List ℕ) → longest_line < length (front_of stream)
     → (behind : List Line) × (lines_of stream ≡ TooLong ∷ behind)
 long_first stream long =
     let first = first_part stream in

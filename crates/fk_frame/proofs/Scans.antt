@@ -5,18 +5,17 @@ use Rattle.std.proofs.lemmas.Bool.{cases_lt, ne_eqb, eqb-true, eqb-false}
 use Rattle.std.proofs.lemmas.Bool.Decides.{nat_tests}
 use Rattle.std.proofs.lemmas.List.{get_or-drop, drop-drop, length-drop, get_or_default, take_rest}
 use Rattle.std.proofs.lemmas.List.Sums.{position_or_len_is, fails_before_first, passes_at_first, prefix_len-le-length}
-use Rattle.fk_frame.specs.declared.line_reader.TheConstants.{LINE_MAX}
 use Rattle.fk_frame.specs.Bytes.{line_feed, is_line_feed}
-use Rattle.fk_frame.specs.Lines.{is_too_long, without_return}
+use Rattle.fk_frame.specs.Lines.{longest_line, is_too_long, without_return}
 use Rattle.fk_frame.specs.Reading.{front_of, IsFirstLine, HasNoLine, HasLongLine}
 use Rattle.fk_frame.specs.Scanned.{IsScanned}
 use Rattle.fk_frame.proofs.Lines.{no_lines, first_then_rest, long_first, front_grows}
 
 -- what the test of a line's length says
-is_longer : (line : List ℕ) → is_too_long line ≡ true → LINE_MAX < length line
+is_longer : (line : List ℕ) → is_too_long line ≡ true → longest_line < length line
 is_longer line long = grind (arith, nat_tests)
 
-is_no_longer : (line : List ℕ) → is_too_long line ≡ false → length line ≤ LINE_MAX
+is_no_longer : (line : List ℕ) → is_too_long line ≡ false → length line ≤ longest_line
 is_no_longer line short = grind (arith, nat_tests)
 
 -- where the scan from a place on ends: at the first line feed, or at the end
@@ -77,7 +76,7 @@ pub long_line : (bytes : List ℕ) (from scanned end : ℕ) → IsScanned bytes 
     → HasLongLine (drop from bytes) (drop from bytes)
 long_line bytes from scanned end seen is long =
     let first = rw (front_is bytes from scanned end seen is) at (is_longer _ long) in
-    let lasts : (more : List ℕ) → LINE_MAX < length (front_of (drop from bytes ++ more)) =
+    let lasts : (more : List ℕ) → longest_line < length (front_of (drop from bytes ++ more)) =
     λ more. omega (arith, front_grows (drop from bytes) more) in
     record {
       long = first;
@@ -97,7 +96,7 @@ no_line bytes from scanned end seen is all short =
     let here : get_or bytes (from + held.0) line_feed ≡ line_feed = rw get_or-drop at held.2 in
     goes_on bytes from scanned seen (from + held.0) (omega arith) (omega arith)
     (get_or_default bytes (from + held.0) 0 line_feed within ∙ here) in
-    let fits : length (drop from bytes) ≤ LINE_MAX = rw (all, take_rest) at (is_no_longer _ short) in
+    let fits : length (drop from bytes) ≤ longest_line = rw (all, take_rest) at (is_no_longer _ short) in
     record { unended = unended; fits = fits; same = refl; lines = no_lines (drop from bytes) unended fits }
 
 -- a stream whose first line feed stands within it has one

@@ -3,8 +3,11 @@ use Rattle.std.specs.Prelude.{ℕ, ◌-◌, ◌==◌, Bool, nat_lt, List, [], �
 use Rattle.std.specs.List.{slice_split}
 use Rattle.fk_frame.specs.declared.line_reader.Line.{Line}
 use Rattle.fk_frame.specs.declared.line_reader.Line.TheVariants.{Whole, TooLong}
-use Rattle.fk_frame.specs.declared.line_reader.TheConstants.{LINE_MAX}
 use Rattle.fk_frame.specs.Bytes.{carriage_return, is_line_feed}
+
+-- the most bytes that a line may have before its line feed, with the CR
+abbrev pub longest_line : ℕ
+longest_line = 4_194_304
 
 -- the list without its last item
 abbrev pub all_but_last : {X : Type 0} → List X → List X
@@ -17,7 +20,7 @@ without_return line =
 
 -- more bytes than a line may have, the CR at its end among them
 abbrev pub is_too_long : List ℕ → Bool
-is_too_long part = nat_lt LINE_MAX (length part)
+is_too_long part = nat_lt longest_line (length part)
 
 -- what stands before a line feed, as a line
 abbrev pub line_of : List ℕ → Line

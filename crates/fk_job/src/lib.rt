@@ -22,6 +22,7 @@ pub use failure::Failure;
 pub use fault::JobFault;
 pub use job::Job;
 pub use jobs::Jobs;
+pub use named::string_of;
 pub use reading::read_job;
 pub use stamp::Stamp;
 pub use writing::write_job;

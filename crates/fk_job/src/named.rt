@@ -58,8 +58,9 @@ pub(crate) fn given_value<'a>(text: &'a [u8], members: &[Member], name: &[u8]) -
     }
 }
 
-// The string of a name, decoded.
-pub(crate) fn string_of(
+/// What the last member of a name stands for, where it is a string; `None` where there is none or it is
+/// something else.
+pub fn string_of(
     alloc: Global,
     text: &[u8],
     members: &[Member],

@@ -52,6 +52,13 @@ impl Spans {
         self.spans.get(at)
     }
 
+    /// All spans, in order.
+    pub fn as_slice(&self) -> &[Span]
+        ensures { result.now ≡ self.now }
+    {
+        &self.spans
+    }
+
     /// The number of spans.
     pub fn len(&self) -> usize
         ensures { result ≡ length self.now }

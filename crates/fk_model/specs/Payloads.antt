@@ -1,4 +1,5 @@
--- What a PUSH and a PUSHB give: the jobs that are kept, and the reply.
+-- What a PUSH and a PUSHB give, after Faktory's protocol specification: the jobs that are kept, and the
+-- reply. The texts are this server's own.
 use Rattle.std.specs.Prelude.{◌≡◌, ◌⊎◌, ℕ, List, [], ◌∷◌, ◌++◌, codes, slice_range}
 use Rattle.serde_json.specs.Data.{Members, no_members, object, put, string}
 use Rattle.serde_json.specs.Written.{compact_text}
@@ -58,7 +59,8 @@ pub data Element : Type 0 where
   taken : Job → Element
   barred : List ℕ → List ℕ → Element
 
--- the key of an element: its jid, where it is an object in which that is a string, and else nothing
+-- the key of an element: what its last jid stands for, where it is an object in which that is a string,
+-- and else the empty text
 abbrev pub HasKey : List ℕ → List ℕ → Type 0
 HasKey text key =
     ((members : List Member) × IsObjectText most_levels text members

@@ -1,4 +1,5 @@
--- The script of a stream: what is answered to it and what is kept of it, on a connection of its own.
+-- The script of a stream, after Faktory's protocol specification: what is answered to it and what is
+-- kept of it, on a connection of its own.
 use Rattle.std.specs.Prelude.{◌≡◌, ℕ, true, List, [], ◌∷◌, ◌++◌, Bool, false, codes, if◌then◌else◌}
 use Rattle.std.specs.List.{flat_map, list_any}
 use Rattle.fk_job.specs.declared.job.Job.{Job}

@@ -3,3 +3,7 @@ pub mod Giving
 pub mod Answering
 pub mod Ends
 pub mod Words
+pub mod Refusals
+pub mod Keys
+pub mod Told
+pub mod Batches

@@ -1,3 +1,5 @@
 pub mod Words
+pub mod Verbs
+pub mod Batches
 pub mod Session
 pub mod Answering

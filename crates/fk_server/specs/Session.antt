@@ -1,5 +1,5 @@
 -- What a session on one connection does, by how it ends.
-use Rattle.std.specs.Prelude.{◌≡◌, ◌⊎◌, ℕ, ◌<◌, ◌≤◌, List, [], ◌++◌, length, Option}
+use Rattle.std.specs.Prelude.{◌≡◌, ◌⊎◌, ℕ, ◌<◌, ◌≤◌, ◌^◌, List, [], ◌++◌, length, Option}
 use Rattle.fk_io.specs.declared.fault.Ended.{Ended}
 use Rattle.fk_io.specs.declared.fault.Ended.TheVariants.{Closed, ReadFault, WriteFault, Spent, NoMemory}
 use Rattle.fk_io.specs.Content.{Took, Gained, IsAtEnd}
@@ -7,7 +7,14 @@ use Rattle.fk_io.specs.Faults.{Rose}
 use Rattle.fk_job.specs.declared.job.Job.{Job}
 use Rattle.fk_model.specs.Payloads.{Given}
 use Rattle.fk_model.specs.Script.{IsOver, IsScript, kept_jobs, output}
-use Rattle.fk_server.specs.declared.session.TheConstants.{PIECE, TAKEN_MAX}
+
+-- the most bytes that one read asks for
+abbrev pub piece_length : ℕ
+piece_length = 4096
+
+-- the most bytes that are taken from one connection
+abbrev pub most_taken : ℕ
+most_taken = 2 ^ 62
 
 -- what a session's input, its output and its list of kept jobs tell
 pub record Setting : Type 0 where
@@ -48,17 +55,17 @@ pub record IsKeptSoFar (old new : Setting) (items : List Given) (written : List 
   pub kept : new.kept ≡ old.kept ++ kept_jobs front
   pub no_more : Begins written (output front)
 
--- At most the last piece of the bytes taken may be without its answer, and no END stands before that
--- piece: either nothing was taken, or some bytes without END, to which all was written, and then at
--- most a piece.
+-- At most the last piece of the bytes taken may be without its answer, and the talk wasn't over before
+-- that piece: either nothing was taken, or some bytes that don't end the talk, to which all was
+-- written, and then at most a piece.
 abbrev pub IsPrompt : List ℕ → List ℕ → Type 0
 IsPrompt taken written = (taken ≡ []) ⊎ ((before piece : List ℕ) × (items : List Given)
-    × (taken ≡ before ++ piece) × (length piece ≤ PIECE) × ¬ IsOver before
+    × (taken ≡ before ++ piece) × (length piece ≤ piece_length) × ¬ IsOver before
     × IsScript before items × Begins (output items) written)
 
 -- more might have been taken, and nothing was to come, where that is told
 abbrev pub IsReadToEnd : Setting → List ℕ → Type 0
-IsReadToEnd new taken = (length taken < TAKEN_MAX) × IsAtEnd new.left
+IsReadToEnd new taken = (length taken < most_taken) × IsAtEnd new.left
 
 -- what each end says
 abbrev pub HasEnded : Ended → Setting → Setting → List ℕ → List Given → List ℕ → Type 0
@@ -67,7 +74,7 @@ HasEnded Closed old new taken items written =
     IsAnswered old new items written × (IsOver taken ⊎ (¬ IsOver taken × IsReadToEnd new taken))
 -- all was answered, and the next read failed
 HasEnded ReadFault old new taken items written =
-    IsAnswered old new items written × ¬ IsOver taken × (length taken < TAKEN_MAX)
+    IsAnswered old new items written × ¬ IsOver taken × (length taken < most_taken)
     × Rose old.read_faults new.read_faults
 -- a write failed: the greeting and the replies were written up to some byte, and not to their end
 HasEnded WriteFault old new taken items written =
@@ -75,7 +82,7 @@ HasEnded WriteFault old new taken items written =
     × Rose old.write_faults new.write_faults
 -- all was answered, and no more bytes may be read
 HasEnded Spent old new taken items written =
-    IsAnswered old new items written × ¬ IsOver taken × (length taken ≡ TAKEN_MAX)
+    IsAnswered old new items written × ¬ IsOver taken × (length taken ≡ most_taken)
 -- memory ran out: the greeting and the replies were written up to some byte
 HasEnded NoMemory old new taken items written =
     Begins written (output items) × IsKeptSoFar old new items written
@@ -87,7 +94,7 @@ pub record Serves
   pub took : Took old.left taken new.left
   pub script : IsScript taken items
   pub gained : Gained old.held written new.held
-  pub within : length taken ≤ TAKEN_MAX
+  pub within : length taken ≤ most_taken
   pub prompt : IsPrompt taken written
   pub outcome : HasEnded ended old new taken items written
 

@@ -2,7 +2,13 @@
 #![tactic(auto)]
 
 mod answer;
+mod batch;
+mod command;
+mod key;
+#[cfg(test)]
+mod payload_tests;
 mod piped;
+mod refusal;
 mod session;
 mod talk;
 #[cfg(test)]

@@ -1,23 +1,34 @@
-ghost use Rattle.std.specs.Prelude.{◌≡◌, ◌≤◌, length, position, IfOk, IfSome};
-ghost use Rattle.std.specs.List.{position_or_len};
+ghost use Rattle.std.specs.Prelude.{◌≡◌, [], ◌∷◌, codes, IfOk, IfSome};
 ghost use Rattle.fk_frame.specs.declared.line_reader.Line.TheVariants.{Whole};
+ghost use Rattle.fk_frame.specs.declared.reply.Reply.TheVariants.{Status};
 ghost use Rattle.fk_frame.specs.Replies.{IsWellFormed};
-ghost use Rattle.fk_model.specs.Commands.{verb, is_plain_hello, is_space};
+ghost use Rattle.fk_model.specs.Commands.{arguments};
 ghost use Rattle.fk_model.specs.Items.{given_items, given_of};
-ghost use Rattle.fk_model.specs.Script.{too_long, phase_after, AreItemsOf};
+ghost use Rattle.fk_model.specs.Payloads.{IsPushed};
+ghost use Rattle.fk_model.specs.Script.{AreGiven, AreItemsOf, handshake_items, phase_after, too_long};
+ghost use Rattle.fk_server.specs.Verbs.{command};
 
+use crate::batch::push_batch;
+use crate::command::{Verb, arguments_of, says_hello, verb_in, verb_of};
+use crate::refusal::{accept, job_or_fault, refuse, refuse_fault};
 use fk_frame::Reply;
-use fk_job::Jobs;
+use fk_job::{Job, Jobs};
 use fk_json::Text;
 use fk_model::{Item, Phase};
 use std::alloc::{AllocError, Global};
 
 /// What a whole line of a talk gives, if it gives anything.
-pub fn read_item(_alloc: Global, _phase: Phase, _line: &[u8]) -> Result<Option<Item>, AllocError>
-    ensures items { IfOk result (λ item. AreItemsOf _phase (Whole _line.now) (given_items item)) }
+#[tactic(auto, unfolding(fk_model::specs::Script::AreItemsOf))]
+pub fn read_item(alloc: Global, phase: Phase, line: &[u8]) -> Result<Option<Item>, AllocError>
+    ensures items { IfOk result (λ item. AreItemsOf phase (Whole line.now) (given_items item)) }
     ensures reply { IfOk result (λ item. IfSome item (λ item. IsWellFormed item.reply)) }
 {
-    Err(AllocError)
+    let verb = verb_in(line);
+    match phase {
+        Phase::Greeted => Ok(before_hello(alloc, verb, line)),
+        Phase::Accepted => behind_hello(alloc, verb, line),
+        Phase::Over => Ok(None),
+    }
 }
 
 /// How far the talk has come behind a whole line.
@@ -41,38 +52,60 @@ pub fn refuse_long_line(alloc: Global) -> Item
     ensures item { given_of result ≡ too_long }
     ensures reply { IsWellFormed result.reply }
 {
-    Item {
-        reply: Reply::Error(Text::fixed(alloc, b"ERR Line too long")),
-        jobs: Jobs::new(alloc),
+    refuse(alloc, b"ERR Line too long")
+}
+
+/// What a line gives before a HELLO was accepted, if it gives anything.
+fn before_hello(alloc: Global, verb: Verb, line: &[u8]) -> Option<Item>
+    ensures item { given_items result ≡ handshake_items line.now (command verb) }
+    ensures reply { IfSome result (λ item. IsWellFormed item.reply) }
+{
+    match verb {
+        Verb::End => None,
+        Verb::Hello if says_hello(line) => Some(accept(alloc)),
+        Verb::Hello => Some(refuse(alloc, b"ERR Not served yet")),
+        Verb::Push | Verb::Batch | Verb::Unknown => Some(refuse(alloc, b"ERR HELLO first")),
     }
 }
 
-/// The place of the line's first space.
-fn first_space(line: &[u8]) -> Option<usize>
-    ensures { result ≡ position is_space line.now }
+/// What a line gives behind an accepted HELLO, if it gives anything.
+fn behind_hello(alloc: Global, verb: Verb, line: &[u8]) -> Result<Option<Item>, AllocError>
+    ensures item { IfOk result
+        (λ item. AreGiven (command verb) (arguments line.now) (given_items item)) }
+    ensures reply { IfOk result (λ item. IfSome item (λ item. IsWellFormed item.reply)) }
 {
-    line.iter().position(|byte| *byte == b' ')
+    match verb {
+        Verb::End => Ok(None),
+        Verb::Hello => Ok(Some(refuse(alloc, b"ERR Not served yet"))),
+        Verb::Push => Ok(Some(push(alloc, arguments_of(line))?)),
+        Verb::Batch => Ok(Some(push_batch(alloc, arguments_of(line))?)),
+        Verb::Unknown => Ok(Some(refuse(alloc, b"ERR Unknown command"))),
+    }
 }
 
-/// The place of the line's first space, or the line's length where it has none.
-#[tactic(auto, using(fk_frame::proofs::Places::unwrap_or_position))]
-fn space_at(line: &[u8]) -> usize
-    ensures place { result ≡ position_or_len is_space line.now }
-    ensures within { result ≤ length line.now }
+/// What a PUSH of these arguments gives.
+fn push(alloc: Global, arguments: &[u8]) -> Result<Item, AllocError>
+    ensures item { IfOk result (λ item. IsPushed arguments.now (given_of item)) }
+    ensures reply { IfOk result (λ item. IsWellFormed item.reply) }
 {
-    first_space(line).unwrap_or(line.len())
+    match job_or_fault(alloc, arguments)? {
+        Ok(job) => keep_job(alloc, job),
+        Err(fault) => refuse_fault(alloc, &fault),
+    }
 }
 
-/// The line's bytes before its first space, or all of them.
-fn verb_of(line: &[u8]) -> &[u8]
-    ensures { result.now ≡ verb line.now }
+/// The reply `+OK`, with a job that is kept.
+fn keep_job(alloc: Global, job: Job) -> Result<Item, AllocError>
+    ensures item { IfOk result (λ item. given_of item ≡ record {
+      reply = Status (codes "OK");
+      kept = job ∷ [];
+    }) }
+    ensures reply { IfOk result (λ item. IsWellFormed item.reply) }
 {
-    &line[..space_at(line)]
-}
-
-/// Whether the line is the one HELLO that is served.
-fn says_hello(line: &[u8]) -> bool
-    ensures { result ≡ is_plain_hello line.now }
-{
-    line == b"HELLO {\"v\":2}".as_slice()
+    let mut jobs = Jobs::new(alloc);
+    jobs.push(job)?;
+    Ok(Item {
+        reply: Reply::Status(Text::fixed(alloc, b"OK")),
+        jobs,
+    })
 }

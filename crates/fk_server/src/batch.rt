@@ -1,0 +1,108 @@
+// A batch of jobs: those that are taken are kept, and those that aren't are told, each under its
+// jid.
+ghost use Rattle.std.specs.Prelude.{◌≡◌, false, List, ℕ, slice_range, IfOk, OnOk};
+ghost use Rattle.std.specs.List.{AllByRecursion};
+ghost use Rattle.serde_json.specs.Data.{object, put, string};
+ghost use Rattle.serde_json.specs.View.{members_view};
+ghost use Rattle.serde_json.specs.Written.{compact_text, members_have_float};
+ghost use Rattle.fk_json.specs.Members.{IsElementIn, inner_levels};
+ghost use Rattle.fk_frame.specs.Replies.{IsWellFormed};
+ghost use Rattle.fk_frame.specs.declared.reply.Reply.TheVariants.{Bulk};
+ghost use Rattle.fk_model.specs.Items.{given_of};
+ghost use Rattle.fk_model.specs.Payloads.{HasKey, IsBatch, fault_text};
+ghost use Rattle.fk_server.specs.Batches.{Grows, IsReadAs};
+
+use crate::key::key_of;
+use crate::refusal::{fault_text, job_or_fault, refuse};
+use fk_frame::Reply;
+use fk_job::{JobFault, Jobs};
+use fk_json::{JsonFault, Span, Text, scan_array};
+use fk_model::Item;
+use serde_json::{Map, Value};
+use std::alloc::{AllocError, Global};
+
+/// What was read of a batch: the jobs that are kept, and by key why the others aren't.
+#[derive(Drop)]
+struct Batch {
+    jobs: Jobs,
+    refusals: Map<String, Value>,
+}
+
+/// What a PUSHB of these arguments gives.
+pub(crate) fn push_batch(alloc: Global, arguments: &[u8]) -> Result<Item, AllocError>
+    ensures item { IfOk result (λ item. IsBatch arguments.now (given_of item)) }
+    ensures reply { IfOk result (λ item. IsWellFormed item.reply) }
+{
+    match scan_array(alloc, arguments) {
+        Ok(spans) => tell(alloc, read_elements(alloc, arguments, spans.as_slice())?),
+        Err(JsonFault::Syntax(_)) => Ok(refuse(alloc, b"ERR Bad JSON")),
+        Err(JsonFault::TooDeep(_)) => Ok(refuse(alloc, b"ERR JSON too deep")),
+        Err(JsonFault::NoMemory) => Err(AllocError),
+    }
+}
+
+/// The answer to a batch: why its refused elements were, as an object.
+fn tell(alloc: Global, batch: Batch) -> Result<Item, AllocError>
+    requires { members_have_float (members_view batch.refusals.entries) ≡ false }
+    ensures item { IfOk result (λ item. given_of item ≡ record {
+      reply = Bulk (compact_text (object (members_view batch.refusals.entries)));
+      kept = batch.jobs.items;
+    }) }
+    ensures reply { IfOk result (λ item. IsWellFormed item.reply) }
+{
+    let text = Value::Object(batch.refusals).to_string(alloc)?;
+    Ok(Item {
+        reply: Reply::Bulk(Text::copy(alloc, text.as_bytes())?),
+        jobs: batch.jobs,
+    })
+}
+
+/// Reads the elements at these places, one by one.
+fn read_elements(alloc: Global, text: &[u8], spans: &[Span]) -> Result<Batch, AllocError>
+    requires { AllByRecursion (IsElementIn inner_levels text.now) spans.now }
+    ensures { IfOk result (IsReadAs text.now spans.now) }
+{
+    let mut batch = Batch {
+        jobs: Jobs::new(alloc),
+        refusals: Map::new(alloc),
+    };
+    for span in spans {
+        read_element(alloc, piece_at(text, *span), &mut batch)?;
+    }
+    Ok(batch)
+}
+
+/// The element at its place.
+fn piece_at(text: &[u8], span: Span) -> &[u8]
+    requires { IsElementIn inner_levels text.now span }
+    ensures { result.now ≡ slice_range text.now span.from span.to }
+{
+    &text[span.from..span.to]
+}
+
+/// Reads one element: its job is kept, or its fault put under its key.
+fn read_element(alloc: Global, text: &[u8], batch: &mut Batch) -> Result<(), AllocError>
+    ensures { OnOk result (Grows text.now batch.old batch.new) }
+{
+    match job_or_fault(alloc, text)? {
+        Ok(job) => batch.jobs.push(job),
+        Err(fault) => bar(alloc, text, &fault, &mut batch.refusals),
+    }
+}
+
+/// Puts a fault under its element's key, in the place of one that was there.
+fn bar(
+    alloc: Global,
+    text: &[u8],
+    fault: &JobFault,
+    refusals: &mut Map<String, Value>,
+) -> Result<(), AllocError>
+    ensures { OnOk result ((key : List ℕ) × HasKey text.now key
+        × (members_view refusals.new.entries
+        ≡ put key (string (fault_text fault.now)) (members_view refusals.old.entries))) }
+{
+    let key = key_of(alloc, text)?;
+    let reason = String::from_str(alloc, fault_text(fault))?;
+    drop(refusals.insert(key, Value::String(reason))?);
+    Ok(())
+}
