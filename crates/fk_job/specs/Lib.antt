@@ -4,4 +4,5 @@ pub mod Faults
 pub mod Members
 pub mod Fields
 pub mod Values
+pub mod Pieces
 pub mod JobText
