@@ -17,12 +17,13 @@ use Rattle.fk_json.specs.declared.mode.Move.TheVariants.{To, Names, Begins, Open
 use Rattle.fk_json.specs.declared.standing.Places.{Places}
 use Rattle.fk_json.specs.declared.standing.Region.TheVariants.{Between}
 use Rattle.fk_json.specs.declared.string_mode.StringMode.{StringMode}
+use Rattle.fk_json.specs.Reached.{Finds, IsNamed, IsPast, KnownBetween}
 use Rattle.fk_json.proofs.Leads.{BetweenLeft, MovedLeft, between_moves}
-use Rattle.fk_json.proofs.Stands.{Finds, GoesOn, KnownBetween, Outcome, Source, Stage, between_at, finds_same, moved_right}
-use Rattle.fk_json.proofs.Steps.{IsNamed, same, through}
+use Rattle.fk_json.proofs.Stands.{GoesOn, Outcome, Source, Stage, between_at, finds_same, moved_right}
+use Rattle.fk_json.proofs.Steps.{same, through}
 use Rattle.fk_json.proofs.StringLeft.{string_may_end}
 use Rattle.fk_json.proofs.Strings.{one_value}
-use Rattle.fk_json.proofs.Tame.{EndsName, IsAnObject, IsPast, IsTame, IsWithin, LedName, tame}
+use Rattle.fk_json.proofs.Tame.{EndsName, IsAnObject, IsTame, IsWithin, LedName, tame}
 
 -- what is left before a byte between the outermost brackets
 abbrev pub Here : (outer : Bracket) → List ℕ → List ℕ → List Bracket → Places → Mode → ℕ → Source outer
@@ -229,9 +230,12 @@ named_left Object done name value [] places mode b object ends is most rest othe
     let front = drop places.name_from done in
     let at = length done in (
       λ (levels, l, (found, spelled, colon)).
-          let e = one_value front found value (subst (λ x. IsString x found) (append-nil front) spelled) is in
-          (levels, l, subst (λ x. ColonLeft (outermost Object levels) (IsValue levels) x places.name_from at at
-          (b ∷ rest) others) e colon),
+          let e = one_value front found value (subst (λ x. IsString x found) (append-nil front) spelled) is in (
+            levels,
+            l,
+            subst (λ x. ColonLeft (outermost Object levels) (IsValue levels) x places.name_from at at
+                (b ∷ rest) others) e colon,
+          ),
       λ (levels, l, colon).
           (levels, l, (value, subst (λ x. IsString x value) (sym (append-nil front)) is, colon)),
     )

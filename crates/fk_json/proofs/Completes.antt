@@ -14,10 +14,11 @@ use Rattle.fk_json.specs.declared.mode.Mode.TheVariants.{First, Next, Naming, Co
 use Rattle.fk_json.specs.declared.number_mode.NumberMode.TheVariants.{Zero}
 use Rattle.fk_json.specs.declared.string_mode.StringMode.TheVariants.{Inside}
 use Rattle.fk_json.specs.declared.token.Token.TheVariants as token
+use Rattle.fk_json.specs.Reached.{IsNamed}
 use Rattle.fk_json.proofs.Items.{elements_apart, members_apart, named}
 use Rattle.fk_json.proofs.NumberLeft.{number_may_end}
 use Rattle.fk_json.proofs.Spaces.{spaced_at}
-use Rattle.fk_json.proofs.Steps.{IsNamed, frame}
+use Rattle.fk_json.proofs.Steps.{frame}
 use Rattle.fk_json.proofs.StringLeft.{string_begins, string_completes}
 use Rattle.fk_json.proofs.TokenLeft.{token_completes}
 use Rattle.fk_json.proofs.Values.{value_begins}
@@ -35,16 +36,21 @@ Completable F = (place : ℕ) → Completed (λ text found. F.Behind place text 
 after_completes : {I O : Type 0} (F : Frame I O) → Completable F → (at : ℕ)
     → Completed (λ text found. AfterLeft F at text found)
 after_completes F behind at =
-    let (text, found, h) = behind (at + 1) in
-    (F.close ∷ text, found,
-    spaced_at (λ place rest. TailLeft F place rest found) at (F.close ∷ text) (inl (text, h, refl)))
+    let (text, found, h) = behind (at + 1) in (
+      F.close ∷ text,
+      found,
+      spaced_at (λ place rest. TailLeft F place rest found) at (F.close ∷ text) (inl (text, h, refl)),
+    )
 
 first_completes : {I O : Type 0} (F : Frame I O) → Completable F → (at : ℕ)
     → Completed (λ text found. FirstLeft F at text found)
 first_completes F behind at =
-    let (text, found, h) = behind (at + 1) in
-    (F.close ∷ text, found, inr (spaced_at (ByteThen F.close (λ place rest. F.Behind place rest found)) at
-    (F.close ∷ text) (text, h, refl)))
+    let (text, found, h) = behind (at + 1) in (
+      F.close ∷ text,
+      found,
+      inr (spaced_at (ByteThen F.close (λ place rest. F.Behind place rest found)) at
+          (F.close ∷ text) (text, h, refl)),
+    )
 
 -- ---- a value
 
@@ -70,9 +76,12 @@ colon_completes : {O : Type 0} (F : Frame Member O) → Completable F → (level
     (name_from name_to at : ℕ)
     → Completed (λ text found. ColonLeft F (IsValue levels) name name_from name_to at text found)
 colon_completes F behind levels name name_from name_to at =
-    let (text, found, h) = value_completes F behind levels (named name name_from name_to) (at + 1) in
-    (58 ∷ text, found, spaced_at (ByteThen 58 (λ place rest. ValueLeft F (IsValue levels)
-    (named name name_from name_to) place rest found)) at (58 ∷ text) (text, h, refl))
+    let (text, found, h) = value_completes F behind levels (named name name_from name_to) (at + 1) in (
+      58 ∷ text,
+      found,
+      spaced_at (ByteThen 58 (λ place rest. ValueLeft F (IsValue levels)
+          (named name name_from name_to) place rest found)) at (58 ∷ text) (text, h, refl),
+    )
 
 name_completes : {O : Type 0} (F : Frame Member O) → Completable F → (levels : ℕ)
     (IsName : List ℕ → List ℕ → Type 0) (rest name : List ℕ) → IsName rest name → (name_from at : ℕ)
@@ -95,9 +104,12 @@ items_complete Object levels note Behind behind at =
     let F = frame Object levels note Behind in
     let (rest, left) = string_completes Inside in
     let (name, is) = (string_begins rest).1 left in
-    let (text, found, h) = name_completes F behind levels IsString (34 ∷ rest) name is at at in
-    (text, found, (members_apart (IsValue levels) 125 note Behind at text found).1
-    (spaced_at (λ place more. NameLeft F (IsValue levels) IsString place place more found) at text h))
+    let (text, found, h) = name_completes F behind levels IsString (34 ∷ rest) name is at at in (
+      text,
+      found,
+      (members_apart (IsValue levels) 125 note Behind at text found).1
+          (spaced_at (λ place more. NameLeft F (IsValue levels) IsString place place more found) at text h),
+    )
 
 -- ---- brackets in brackets
 
@@ -158,7 +170,9 @@ pub before_completes : (outer : Bracket) (levels at : ℕ)
     → (text : List ℕ) × (found : List (Item outer))
     × Spaced (ByteThen (opening outer) (λ place rest. FirstLeft (outermost outer levels) place rest found)) at text
 before_completes outer levels at =
-    let (text, found, h) = first_completes (outermost outer levels) (λ place. ([], [], (refl, refl))) (at + 1) in
-    (opening outer ∷ text, found,
-    spaced_at (ByteThen (opening outer) (λ place rest. FirstLeft (outermost outer levels) place rest found)) at
-    (opening outer ∷ text) (text, h, refl))
+    let (text, found, h) = first_completes (outermost outer levels) (λ place. ([], [], (refl, refl))) (at + 1) in (
+      opening outer ∷ text,
+      found,
+      spaced_at (ByteThen (opening outer) (λ place rest. FirstLeft (outermost outer levels) place rest found)) at
+          (opening outer ∷ text) (text, h, refl),
+    )

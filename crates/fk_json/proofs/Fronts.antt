@@ -21,7 +21,7 @@ pub tail_comma : {I O : Type 0} (F : Frame I O) (at b : ℕ) (text : List ℕ) (
     → (TailLeft F at (b ∷ text) found) ↔ (ItemsLeft F (at + 1) text found)
 tail_comma {I} {O} F at b text found closing is = (
   λ h. elim h as (λ _. ItemsLeft F (at + 1) text found) [
-    inl p ↦ absurd (closing.other (sym (head_of p.2) ∙ is))
+    | inl p ↦ absurd (closing.other (sym (head_of p.2) ∙ is))
     | inr p ↦ (byte_on (λ place rest. ItemsLeft F place rest found) 44 at b text is).0 p
   ],
   λ h. inr ((byte_on (λ place rest. ItemsLeft F place rest found) 44 at b text is).1 h),
@@ -32,7 +32,7 @@ pub tail_close : {I O : Type 0} (F : Frame I O) (at b : ℕ) (text : List ℕ) (
     → (TailLeft F at (b ∷ text) found) ↔ (F.Behind (at + 1) text found)
 tail_close F at b text found closing is = (
   λ h. elim h as (λ _. F.Behind (at + 1) text found) [
-    inl p ↦ (byte_on (λ place rest. F.Behind place rest found) F.close at b text is).0 p
+    | inl p ↦ (byte_on (λ place rest. F.Behind place rest found) F.close at b text is).0 p
     | inr p ↦ absurd (closing.other (sym is ∙ head_of p.2))
   ],
   λ h. inl ((byte_on (λ place rest. F.Behind place rest found) F.close at b text is).1 h),
@@ -53,7 +53,7 @@ tail_space F at b text found closing space =
 pub tail_empty : {I O : Type 0} (F : Frame I O) (at : ℕ) (found : List O) → ¬ TailLeft F at [] found
 tail_empty F at found h =
     elim h as (λ _. ⊥) [
-      inl p ↦ byte_nil (λ place rest. F.Behind place rest found) F.close at p
+      | inl p ↦ byte_nil (λ place rest. F.Behind place rest found) F.close at p
       | inr p ↦ byte_nil (λ place rest. ItemsLeft F place rest found) 44 at p
     ]
 
@@ -67,7 +67,7 @@ tail_follows : {I O : Type 0} (F : Frame I O) (at b : ℕ) (text : List ℕ) (fo
     → Closing F.close → TailLeft F at (b ∷ text) found → follows b ≡ true
 tail_follows F at b text found closing h =
     elim h as (λ _. follows b ≡ true) [
-      inl p ↦ subst (λ x. follows x ≡ true) (sym (head_of p.2)) closing.behind
+      | inl p ↦ subst (λ x. follows x ≡ true) (sym (head_of p.2)) closing.behind
       | inr p ↦ comma_follows b (head_of p.2)
     ]
 
@@ -132,9 +132,14 @@ within_over : {I O : Type 0} (F : Frame I O) (L : List ℕ → Type 0) (item : �
     → (rest behind : List ℕ) (others : List O) → L rest
     → Ends F item behind found others (at + length rest) → b ∷ text ≡ rest ++ behind
     → L [] × EndedLeft F item at (b ∷ text) found
-within_over F L item at b text found none [] behind others l ends e =
-    (l, (others, subst (λ x. Ends F item x found others at) (sym e)
-    (ends_at F item behind found others (at + 0) at (omega arith) ends)))
+within_over F L item at b text found none [] behind others l ends e = (
+  l,
+  (
+    others,
+    subst (λ x. Ends F item x found others at) (sym e)
+        (ends_at F item behind found others (at + 0) at (omega arith) ends),
+  ),
+)
 within_over F L item at b text found none (c ∷ rest) behind others l ends e =
     absurd (none rest (subst (λ x. L (x ∷ rest)) (sym (head_of e)) l))
 
@@ -188,7 +193,10 @@ name_behind : {O : Type 0} (F : Frame Member O) (IsInner : List ℕ → Type 0)
 name_behind F IsInner L M name_from at b text found goes unended [] behind name l named e =
     absurd (unended name l)
 name_behind F IsInner L M name_from at b text found goes unended (c ∷ rest) behind name l named e = (
-  rest, behind, name, goes rest name (subst (λ x. L (x ∷ rest) name) (sym (head_of e)) l),
+  rest,
+  behind,
+  name,
+  goes rest name (subst (λ x. L (x ∷ rest) name) (sym (head_of e)) l),
   named_at F IsInner name name_from behind found (at + length (c ∷ rest)) (at + 1 + length rest) (omega arith) named,
   tail_of e,
 )
@@ -202,7 +210,10 @@ name_on F IsInner L M name_from at b text found goes unended = (
   λ h. name_behind F IsInner L M name_from at b text found (λ rest name. (goes rest name).0) unended
       h.0 h.1 h.2 h.3 h.4 h.5,
   λ h. (
-    b ∷ h.0, h.1, h.2, (goes h.0 h.2).1 h.3,
+    b ∷ h.0,
+    h.1,
+    h.2,
+    (goes h.0 h.2).1 h.3,
     named_at F IsInner h.2 name_from h.1 found (at + 1 + length h.0) (at + length (b ∷ h.0)) (omega arith) h.4,
     ap (λ x. b ∷ x) h.5,
   ),
@@ -219,9 +230,12 @@ name_over : {O : Type 0} (F : Frame Member O) (IsInner : List ℕ → Type 0)
     → ((rest name : List ℕ) → ¬ L (b ∷ rest) name) → (rest behind name : List ℕ) → L rest name
     → NamedLeft F IsInner name name_from behind found (at + length rest) → b ∷ text ≡ rest ++ behind
     → EndedName F IsInner L name_from at (b ∷ text) found
-name_over F IsInner L name_from at b text found none [] behind name l named e =
-    (name, l, subst (λ x. NamedLeft F IsInner name name_from x found at) (sym e)
-    (named_at F IsInner name name_from behind found (at + 0) at (omega arith) named))
+name_over F IsInner L name_from at b text found none [] behind name l named e = (
+  name,
+  l,
+  subst (λ x. NamedLeft F IsInner name name_from x found at) (sym e)
+      (named_at F IsInner name name_from behind found (at + 0) at (omega arith) named),
+)
 name_over F IsInner L name_from at b text found none (c ∷ rest) behind name l named e =
     absurd (none rest name (subst (λ x. L (x ∷ rest) name) (sym (head_of e)) l))
 
@@ -233,8 +247,12 @@ pub name_ended : {O : Type 0} (F : Frame Member O) (IsInner : List ℕ → Type 
 name_ended F IsInner L name_from at b text found none = (
   λ h. name_over F IsInner L name_from at b text found none h.0 h.1 h.2 h.3 h.4 h.5,
   λ h. (
-    [], b ∷ text, h.0, h.1,
-    named_at F IsInner h.0 name_from (b ∷ text) found at (at + 0) (omega arith) h.2, refl,
+    [],
+    b ∷ text,
+    h.0,
+    h.1,
+    named_at F IsInner h.0 name_from (b ∷ text) found at (at + 0) (omega arith) h.2,
+    refl,
   ),
 )
 

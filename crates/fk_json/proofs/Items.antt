@@ -93,7 +93,7 @@ item_more F at text found piece rest item others (next ∷ items) more last foun
       subst (λ n. F.Behind n last found_last) (sym place) behind,
       f ∙ ap (λ x. F.note item x) g,
       e ∙ ap (λ x. piece ++ 44 ∷ x) w ∙ sym (append_assoc piece (44 ∷ more) (F.close ∷ last))
-      ∙ ap (λ x. x ++ F.close ∷ last) (sym whole),
+          ∙ ap (λ x. x ++ F.close ∷ last) (sym whole),
     )
 
 item_tail : {I O : Type 0} (F : Frame I O) (at : ℕ) (text : List ℕ) (found : List O)
@@ -241,8 +241,13 @@ four_before x y z rest behind =
 place_four : (at : ℕ) (piece x y z rest : List ℕ) → piece ≡ x ++ y ++ z ++ (58 ∷ []) ++ rest
     → at + length piece ≡ at + length x + length y + length z + 1 + length rest
 place_four at piece x y z rest e =
-    omega (arith, ap length e, length-append (x ++ y ++ z ++ (58 ∷ [])) rest,
-    length-append (x ++ y ++ z) (58 ∷ []), length_three x y z)
+    omega (
+      arith,
+      ap length e,
+      length-append (x ++ y ++ z ++ (58 ∷ [])) rest,
+      length-append (x ++ y ++ z) (58 ∷ []),
+      length_three x y z,
+    )
 
 member_name : {O : Type 0} (F : Frame Member O) (IsInner : List ℕ → Type 0)
     (at : ℕ) (text : List ℕ) (found : List O)
@@ -307,8 +312,8 @@ name_member F IsInner at text found
       subst (λ n. TailLeft F n behind others) (sym place) tail,
       f,
       e ∙ ap (λ x. before ++ x) (u ∙ ap (λ x. spelled_name ++ x)
-      (v ∙ ap (λ x. after ++ x) (w ∙ ap (λ x. 58 ∷ x) t)))
-      ∙ sym (four_before before spelled_name after piece behind),
+          (v ∙ ap (λ x. after ++ x) (w ∙ ap (λ x. 58 ∷ x) t)))
+          ∙ sym (four_before before spelled_name after piece behind),
     )
 
 pub member_apart : {O : Type 0} (F : Frame Member O) (IsInner : List ℕ → Type 0)

@@ -21,8 +21,9 @@ use Rattle.fk_json.specs.declared.string_mode.StringMode.{StringMode}
 use Rattle.fk_json.specs.declared.string_mode.StringMode.TheVariants.{Inside}
 use Rattle.fk_json.specs.declared.token.Token.{Token}
 use Rattle.fk_json.specs.declared.token.Token.TheVariants.{Bracketed}
+use Rattle.fk_json.specs.Reached.{IsNamed}
 use Rattle.fk_json.proofs.Opened.{array_opened, object_opened}
-use Rattle.fk_json.proofs.Steps.{IsNamed, MoveLeft, moves_right, none_ends, same, through}
+use Rattle.fk_json.proofs.Steps.{MoveLeft, moves_right, none_ends, same, through}
 use Rattle.fk_json.proofs.StringLeft.{string_begins, string_goes}
 use Rattle.fk_json.proofs.Values.{value_array, value_flat, value_object}
 
@@ -178,9 +179,14 @@ names_left most outer front name places (Array ∷ inner) mode at b text found o
     absurd (no_object object)
 names_left most outer front name places (Object ∷ inner) mode at b text found object quote =
     levelled (suc (length inner)) most (λ levels. (
-      λ (rest, behind, value, p, colon, e).
-          (rest, behind, value,
-          (string_begins rest).0 (value, subst (λ x. IsString (x ∷ rest) value) quote p), colon, e),
+      λ (rest, behind, value, p, colon, e). (
+        rest,
+        behind,
+        value,
+        (string_begins rest).0 (value, subst (λ x. IsString (x ∷ rest) value) quote p),
+        colon,
+        e,
+      ),
       λ (rest, behind, value, q, colon, e).
           let named = (string_begins rest).1 q in
           (rest, behind, named.0, subst (λ x. IsString (x ∷ rest) named.0) (sym quote) named.1, colon, e),

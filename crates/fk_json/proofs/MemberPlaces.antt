@@ -60,8 +60,12 @@ around_rest front before name after rest back = simp append_assoc refl
 length_front : (before name after : List ℕ)
     → length (before ++ name ++ after ++ codes ":") ≡ length before + length name + length after + 1
 length_front before name after =
-    omega (arith, length-append (before ++ name ++ after) (codes ":"), length-append (before ++ name) after,
-    length-append before name)
+    omega (
+      arith,
+      length-append (before ++ name ++ after) (codes ":"),
+      length-append (before ++ name) after,
+      length-append before name,
+    )
 
 member_in : (levels : ℕ) (whole front text back : List ℕ) (at : ℕ) (member : Member)
     → IsMember (IsValue levels) at text member → at ≡ length front → whole ≡ front ++ (text ++ back)
@@ -112,9 +116,9 @@ joined_in IsItem whole IsIn places front text back at (item ∷ next ∷ items) 
     let w = e ∙ ap (λ x. front ++ (x ++ back)) parts in (
       places front piece (codes "," ++ rest ++ back) at item is place (w ∙ around_first front piece rest back),
       joined_in IsItem whole IsIn places (front ++ piece ++ codes ",") rest back (at + length piece + 1)
-      (next ∷ items) are
-      (omega (arith, place, length-append (front ++ piece) (codes ","), length-append front piece))
-      (w ∙ around_others front piece rest back),
+          (next ∷ items) are
+          (omega (arith, place, length-append (front ++ piece) (codes ","), length-append front piece))
+          (w ∙ around_others front piece rest back),
     )
 
 items_in : {I : Type 0} (IsItem : ℕ → List ℕ → I → Type 0) (whole : List ℕ) (IsIn : I → Type 0)

@@ -234,7 +234,13 @@ letter_back b text false is h = ([], b ∷ text, inl refl, exponent_digit b text
 whole_first : (b : ℕ) (text : List ℕ) (test : Bool) → is_ascii_digit b ≡ test → b ≢ 48
     → Behind (if test then Some Whole else None) text → NumberLeft Minus (b ∷ text)
 whole_first b text true is ne (digits, fraction, exponent, each, fractional, raised, e) = (
-  b ∷ digits, fraction, exponent, inr (are_cons b digits is each, ne), fractional, raised, ap (λ x. b ∷ x) e,
+  b ∷ digits,
+  fraction,
+  exponent,
+  inr (are_cons b digits is each, ne),
+  fractional,
+  raised,
+  ap (λ x. b ∷ x) e,
 )
 whole_first b text false is ne h = absurd h
 
@@ -242,7 +248,13 @@ zero_first : (b : ℕ) (text : List ℕ) (test : Bool) → (b == 48) ≡ test
     → Behind (if test then Some Zero else if is_ascii_digit b then Some Whole else None) text
     → NumberLeft Minus (b ∷ text)
 zero_first b text true is (fraction, exponent, fractional, raised, e) = (
-  b ∷ [], fraction, exponent, inl (ap (λ x. x ∷ []) (eqb-true b 48 is)), fractional, raised, ap (λ x. b ∷ x) e,
+  b ∷ [],
+  fraction,
+  exponent,
+  inl (ap (λ x. x ∷ []) (eqb-true b 48 is)),
+  fractional,
+  raised,
+  ap (λ x. b ∷ x) e,
 )
 zero_first b text false is h = whole_first b text _ refl (eqb-false b 48 is) h
 

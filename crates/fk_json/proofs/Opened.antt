@@ -137,7 +137,7 @@ closed_after F item from to behind found e (rest, more, others, none, after, f, 
     let whole : behind ≡ more = w ∙ ap (λ x. x ++ more) none in (
       others,
       subst (λ n. AfterLeft F n behind others) same
-      (subst (λ x. AfterLeft F (to + length rest) x others) (sym whole) after),
+          (subst (λ x. AfterLeft F (to + length rest) x others) (sym whole) after),
       f ∙ ap (λ n. F.note (item n) others) same,
     )
 
@@ -276,7 +276,7 @@ first_text : {I : Type 0} (IsThing : ℕ → List ℕ → I → Type 0) (open_by
     → IsText (IsBracketed IsThing open_byte close) text items
 first_text IsThing open_byte close text items (before, rest, blank, (more, first, v), e) =
     let (inner, after, space, things, w) =
-        first_items IsThing close (0 + length before + 1) more items first in
+    first_items IsThing close (0 + length before + 1) more items first in
     let same : 0 + length before + 1 ≡ length before + 1 = omega arith in
     record {
       before = before;
@@ -285,7 +285,7 @@ first_text IsThing open_byte close text items (before, rest, blank, (more, first
       spaces = (blank, space);
       shaped = (inner, subst (λ n. AreItems IsThing n inner items) same things, refl);
       whole = e ∙ ap (λ x. before ++ x) (v ∙ ap (λ x. open_byte ∷ x) w)
-      ∙ sym (around before inner after open_byte close);
+          ∙ sym (around before inner after open_byte close);
     }
 
 pub array_text_opened : (levels : ℕ) (text : List ℕ) (elements : List Span)

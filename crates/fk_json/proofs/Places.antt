@@ -12,10 +12,11 @@ use Rattle.fk_json.specs.declared.mode.Bracket.TheVariants.{Array, Object}
 use Rattle.fk_json.specs.declared.mode.Mode.TheVariants.{First}
 use Rattle.fk_json.specs.declared.standing.Standing.{Standing}
 use Rattle.fk_json.specs.declared.standing.Step.TheVariants as step
+use Rattle.fk_json.specs.Reached.{Stands}
 use Rattle.fk_json.proofs.Completes.{between_completes}
 use Rattle.fk_json.proofs.Levels.{array_more, object_more}
 use Rattle.fk_json.proofs.Readings.{Ahead, completes_text, unfinished}
-use Rattle.fk_json.proofs.Stands.{Outcome, Stands}
+use Rattle.fk_json.proofs.Stands.{Outcome}
 
 -- a text of so many levels is one of more
 more : (outer : Bracket) (levels most : ℕ) (text : List ℕ) (items : List (Item outer)) → levels ≤ most
@@ -45,7 +46,7 @@ none_longer outer done b longer rest none l (levels, (after, items, is)) =
     let count = longer - suc (length done) in
     let e : length done + suc count ≡ longer = omega (arith, l) in
     let front : take longer (done ++ b ∷ rest) ≡ done ++ b ∷ take count rest =
-        subst (λ n. take n (done ++ b ∷ rest) ≡ done ++ b ∷ take count rest) e (take_longer done b count rest) in
+    subst (λ n. take n (done ++ b ∷ rest) ≡ done ++ b ∷ take count rest) e (take_longer done b count rest) in
     none_at_all outer done b levels (take count rest ++ after) items none
     (subst (λ x. IsTextOf outer levels x items)
     (ap (λ x. x ++ after) front ∙ append_assoc done (b ∷ take count rest) after) is)
@@ -57,12 +58,12 @@ pub fails_at : (outer : Bracket) (done : List ℕ) (found : List (Item outer)) (
     → FailsAt (IsTextOf outer) (done ++ b ∷ rest) (length done)
 fails_at outer done found standing b rest s stops =
     let none : NoneGoesOn outer done b = λ most after items enough is.
-        let h = (s.left most (b ∷ after) items enough).0 is in
-        stops most after h.0 enough h.2 in
+    let h = (s.left most (b ∷ after) items enough).0 is in
+    stops most after h.0 enough h.2 in
     record {
       inside = omega (arith, length-append done (b ∷ rest));
       begins = subst (Begins (IsTextOf outer) most_levels) (sym (take-append_seam done (b ∷ rest)))
-      (completes_text outer done found standing most_inner (omega (arith)) s);
+          (completes_text outer done found standing most_inner (omega (arith)) s);
       longest = λ longer l within. none_longer outer done b longer rest none l;
       none = λ levels items. none_at_all outer done b levels rest items none;
     }
@@ -74,7 +75,7 @@ pub ends_early : (outer : Bracket) (done : List ℕ) (found : List (Item outer))
 ends_early outer done found standing is s = record {
   inside = omega (arith);
   begins = subst (Begins (IsTextOf outer) most_levels) (sym (take-length done))
-  (completes_text outer done found standing most_inner (omega (arith)) s);
+      (completes_text outer done found standing most_inner (omega (arith)) s);
   longest = λ longer l within. absurd (omega (arith, l, within));
   none = λ levels items h.
       unfinished outer done found standing (levels + most_inner) items (omega (arith)) is s
@@ -109,12 +110,17 @@ too_deep_at outer done found standing b rest s deep =
     record {
       inside = omega (arith, length-append done (b ∷ rest));
       begins = subst (Begins (IsTextOf outer) most_levels) (sym (take-append_seam done (b ∷ rest)))
-      (completes_text outer done found standing most_inner (omega (arith)) s);
-      goes_on = subst (BeginsSome (IsTextOf outer)) (sym front)
-      (suc (suc most_inner), (levels, found ++ later.0,
-      subst (λ x. IsTextOf outer (suc (suc most_inner)) x (found ++ later.0))
-      (sym (append_assoc done (b ∷ []) levels))
-      ((s.left (suc most_inner) (b ∷ levels) (found ++ later.0) (omega (arith))).1 (later.0, refl, later.1))));
+          (completes_text outer done found standing most_inner (omega (arith)) s);
+      goes_on = subst (BeginsSome (IsTextOf outer)) (sym front) (
+        suc (suc most_inner),
+        (
+          levels,
+          found ++ later.0,
+          subst (λ x. IsTextOf outer (suc (suc most_inner)) x (found ++ later.0))
+              (sym (append_assoc done (b ∷ []) levels))
+              ((s.left (suc most_inner) (b ∷ levels) (found ++ later.0) (omega (arith))).1 (later.0, refl, later.1)),
+        ),
+      );
       too_deep = λ h.
           let (after, items, is) = subst (Begins (IsTextOf outer) most_levels) front h in
           let left = (s.left most_inner (b ∷ after) items (omega (arith))).0

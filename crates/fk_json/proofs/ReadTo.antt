@@ -1,13 +1,14 @@
 -- A text that was read up to a place: on by a byte, to its end, and where it stops.
 use Rattle.std.proofs.Common.{◌≡◌, ◌↔◌, ℕ, suc, ◌+◌, ◌-◌, ◌≤◌, ◌<◌, true, false, List, [], ◌∷◌, ◌++◌, length, take, drop, slice_index_or, Option, None, Some, Result, Ok, Err, IfOk, IfSome, MatchOption, refl, sym, ap, subst, ◌∙◌, arith}
 use Rattle.std.proofs.Math.Seq.{split_at}
-use Rattle.std.proofs.lemmas.List.{drop-take, length-append, length-take-le, take-append-drop, take-append-le, take_all, take_more}
-use Rattle.fk_json.specs.Json.{FailsAt, IsTooDeepAt, most_levels}
+use Rattle.std.proofs.lemmas.List.{append-nil, drop-take, length-append, length-take-le, take-append-drop, take-append-le, take_all, take_more}
+use Rattle.fk_json.specs.Json.{FailsAt, Faults, IsTooDeepAt, most_levels}
 use Rattle.fk_json.specs.String.{IsString}
 use Rattle.fk_json.specs.Moves.{most_inner}
 use Rattle.fk_json.specs.Left.{Item, ended}
 use Rattle.fk_json.specs.Standing.{first_standing, is_whole, read}
 use Rattle.fk_json.specs.Remainder.{Adds, HasName, IsKnown, IsTextOf, name_text, pending_of}
+use Rattle.fk_json.specs.declared.cursor.Cursor.{Cursor}
 use Rattle.fk_json.specs.declared.mode.Bracket.{Bracket}
 use Rattle.fk_json.specs.declared.mode.Bracket.TheVariants.{Array, Object}
 use Rattle.fk_json.specs.declared.standing.Found.{Found}
@@ -15,16 +16,16 @@ use Rattle.fk_json.specs.declared.standing.Places.{Places}
 use Rattle.fk_json.specs.declared.standing.Standing.{Standing}
 use Rattle.fk_json.specs.declared.standing.Step.{Step}
 use Rattle.fk_json.specs.declared.standing.Step.TheVariants as step
+use Rattle.fk_json.specs.Cursors.{IsNamedIn, LeadsTo}
+use Rattle.fk_json.specs.declared.cursor.Next.{Next}
+use Rattle.fk_json.specs.declared.cursor.Next.TheVariants as next
+use Rattle.fk_json.specs.declared.fault.JsonFault.{JsonFault}
+use Rattle.fk_json.specs.declared.fault.JsonFault.TheVariants.{Syntax, TooDeep, NoMemory}
+use Rattle.fk_json.specs.Reached.{IsReadTo, Stands}
 use Rattle.fk_json.proofs.Places.{ends_early, fails_at, too_deep_at}
 use Rattle.fk_json.proofs.Readings.{Ahead, goes_on, read_right, starts, whole_text}
-use Rattle.fk_json.proofs.Stands.{Outcome, Stands}
+use Rattle.fk_json.proofs.Stands.{Outcome}
 use Rattle.fk_json.proofs.Strings.{one_value}
-
--- the bytes before a place were read
-pub record IsReadTo (outer : Bracket) (text : List ℕ) (at : ℕ) (found : List (Item outer)) (standing : Standing)
-    : Type 0 where
-  pub within : at ≤ length text
-  pub stands : Stands outer (take at text) found standing
 
 pub read_starts : (outer : Bracket) (text : List ℕ) (found : List (Item outer)) (standing : Standing)
     → found ≡ [] → standing ≡ first_standing → IsReadTo outer text 0 found standing
@@ -105,8 +106,8 @@ read_on outer text at found items standing next item l r is adds =
     record {
       within = omega (arith, l);
       stands = subst (λ x. Stands outer x (found ++ items) next) (sym (take_more text at 0 l))
-      (goes_on outer (take at text) found standing (byte_at text at) items next r.stands
-      (leads items (adds_front outer text at item items has adds)));
+          (goes_on outer (take at text) found standing (byte_at text at) items next r.stands
+          (leads items (adds_front outer text at item items has adds)));
     }
 
 pub read_name : (text : List ℕ) (at : ℕ) (found : List (Item Object)) (standing next : Standing)
@@ -114,22 +115,6 @@ pub read_name : (text : List ℕ) (at : ℕ) (found : List (Item Object)) (stand
     → step.Goes next item ≡ read Object standing at (byte_at text at) → HasName text item
 read_name text at found standing next item l r is =
     name_of text at item (outcome_at Object text at found standing (step.Goes next item) l r is).0
-
--- the items are these, by whatever list they were put into
-pub read_adds : (outer : Bracket) (text : List ℕ) (at : ℕ) (found new : List (Item outer))
-    (standing next : Standing) (item : Option Found) → at < length text
-    → IsReadTo outer text at found standing → step.Goes next item ≡ read outer standing at (byte_at text at)
-    → ((items : List (Item outer)) × Adds outer text item items × (new ≡ found ++ items))
-    → IsReadTo outer text (at + 1) new next
-read_adds outer text at found new standing next item l r is (items, adds, e) =
-    subst (λ x. IsReadTo outer text (at + 1) x next) (sym e)
-    (read_on outer text at found items standing next item l r is adds)
-
--- where an item adds to the items, whatever the text: an element has no name
-pub any_text : (text : List ℕ) (item : Option Found) (items : List (Item Array)) → Adds Array [] item items
-    → Adds Array text item items
-any_text text None items adds = adds
-any_text text (Some found) items adds = adds
 
 -- ---- where it stops
 
@@ -161,8 +146,12 @@ read_deep outer text at found standing l r is =
 pub deep_none : {I : Type 0} (IsTextIn : ℕ → List ℕ → List I → Type 0) (text : List ℕ) (at : ℕ) (items : List I)
     → IsTooDeepAt IsTextIn text at → ¬ IsTextIn most_levels text items
 deep_none IsTextIn text at items deep is =
-    deep.too_deep (drop (at + 1) text, items, subst (λ x. IsTextIn most_levels x items)
-    (sym (take-append-drop (at + 1) text)) is)
+    deep.too_deep (
+      drop (at + 1) text,
+      items,
+      subst (λ x. IsTextIn most_levels x items)
+          (sym (take-append-drop (at + 1) text)) is,
+    )
 
 -- ---- the end
 
@@ -208,3 +197,67 @@ finds_name text places name (Ok (Some value)) known some none = record {
   spelled = subst (λ x. IsString x value) (name_slice text places known.ordered) some;
 }
 finds_name text places name (Err e) known some none = tt
+
+-- ---- from one item to the next
+
+-- the bytes from a cursor to a place were read, and no item ended before them
+pub record ReadsOn (outer : Bracket) (text : List ℕ) (cursor : Cursor) (at : ℕ) (standing : Standing) : Type 0 where
+  pub begun : cursor.at ≤ at
+  pub reads : (found : List (Item outer)) → IsReadTo outer text cursor.at found cursor.standing
+      → IsReadTo outer text at found standing
+
+-- a byte before which no item ended
+pub read_past : (outer : Bracket) (text : List ℕ) (cursor : Cursor) (at : ℕ) (standing next : Standing)
+    → at < length text → ReadsOn outer text cursor at standing
+    → step.Goes next None ≡ read outer standing at (byte_at text at)
+    → ReadsOn outer text cursor (at + 1) next
+read_past outer text cursor at standing next l so_far is = record {
+  begun = omega (arith, so_far.begun);
+  reads = λ found there.
+      subst (λ x. IsReadTo outer text (at + 1) x next) (append-nil found)
+      (read_on outer text at found [] standing next None l (so_far.reads found there) is refl);
+}
+
+pub found_named : (outer : Bracket) (text : List ℕ) (at : ℕ) (found : List (Item outer)) (standing next : Standing)
+    (item : Found) → at < length text → IsReadTo outer text at found standing
+    → step.Goes next (Some item) ≡ read outer standing at (byte_at text at) → IsNamedIn outer text item
+found_named Array text at found standing next item l r is = tt
+found_named Object text at found standing next item l r is =
+    read_name text at found standing next (Some item) l r is
+
+pub found_read : (outer : Bracket) (text : List ℕ) (at : ℕ) (found items : List (Item outer))
+    (standing next : Standing) (item : Found) (cursor : Cursor) → at < length text
+    → IsReadTo outer text at found standing → step.Goes next (Some item) ≡ read outer standing at (byte_at text at)
+    → Adds outer text (Some item) items → cursor.at ≡ at + 1 → cursor.standing ≡ next
+    → IsReadTo outer text cursor.at (found ++ items) cursor.standing
+found_read outer text at found items standing next item cursor l r is adds e f =
+    subst (λ n. IsReadTo outer text n (found ++ items) cursor.standing) (sym e)
+    (subst (IsReadTo outer text (at + 1) (found ++ items)) (sym f)
+    (read_on outer text at found items standing next (Some item) l r is adds))
+
+pub starts_at : (outer : Bracket) (text : List ℕ) (found : List (Item outer)) (cursor : Cursor) → found ≡ []
+    → cursor.at ≡ 0 → cursor.standing ≡ first_standing → IsReadTo outer text cursor.at found cursor.standing
+starts_at outer text found cursor e f g =
+    subst (λ n. IsReadTo outer text n found cursor.standing) (sym f)
+    (read_starts outer text found cursor.standing e g)
+
+-- the text is whole
+pub ends_there : (outer : Bracket) (text : List ℕ) (found all : List (Item outer)) (cursor : Cursor) (led : Next)
+    → LeadsTo outer text cursor led → led ≡ next.End → IsReadTo outer text cursor.at found cursor.standing
+    → (IsTextOf outer most_levels text all) ↔ (all ≡ found)
+ends_there outer text found all cursor led leads e there =
+    subst (LeadsTo outer text cursor) e leads found there all
+
+-- the name of the member that was found
+pub finds_member : (text : List ℕ) (found : List (Item Object)) (cursor behind : Cursor) (led : Next) (item : Found)
+    → LeadsTo Object text cursor led → led ≡ next.Found item behind
+    → IsReadTo Object text cursor.at found cursor.standing → (name : List ℕ) × IsKnown text item.places name
+finds_member text found cursor behind led item leads e there =
+    (subst (LeadsTo Object text cursor) e leads found there).0
+
+-- only want of memory refuses a text that has items
+pub only_memory : (outer : Bracket) (text : List ℕ) (fault : JsonFault) (items : List (Item outer))
+    → Faults (IsTextOf outer) text fault → IsTextOf outer most_levels text items → fault ≡ NoMemory
+only_memory outer text (Syntax at) items fails is = absurd (fails.none most_levels items is)
+only_memory outer text (TooDeep at) items deep is = absurd (deep_none (IsTextOf outer) text at items deep is)
+only_memory outer text NoMemory items tell is = refl

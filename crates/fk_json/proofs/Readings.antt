@@ -16,12 +16,13 @@ use Rattle.fk_json.specs.declared.standing.Region.TheVariants.{Before, Between, 
 use Rattle.fk_json.specs.declared.standing.Standing.{Standing}
 use Rattle.fk_json.specs.declared.standing.Step.{Step}
 use Rattle.fk_json.specs.declared.standing.Step.TheVariants as step
+use Rattle.fk_json.specs.Reached.{Finds, FitsIn, KnownBetween, NamedIn, Stands}
 use Rattle.fk_json.proofs.Between.{between_right}
 use Rattle.fk_json.proofs.Completes.{before_completes, between_completes}
 use Rattle.fk_json.proofs.Leads.{between_ends}
 use Rattle.fk_json.proofs.Opened.{array_text_opened, object_text_opened}
 use Rattle.fk_json.proofs.Spaces.{byte_else, byte_nil, byte_on, spaced_nil, spaced_none, spaced_on}
-use Rattle.fk_json.proofs.Stands.{Finds, FitsIn, KnownBetween, Leads, NamedIn, Outcome, Stands}
+use Rattle.fk_json.proofs.Stands.{Leads, Outcome}
 use Rattle.fk_json.proofs.Steps.{same, through}
 
 -- ---- the start
@@ -131,24 +132,26 @@ before_stands places = record { region = Before; inner = []; places = places }
 before_on : (outer : Bracket) (done name : List ℕ) (places : Places) (b : ℕ)
     → places.name_from ≤ length done → is_space b ≡ true
     → Outcome outer (Ahead outer done name (before_stands places) b) done [] b (goes (before_stands places))
-before_on outer done name places b within space =
-    (([], refl), λ items adds. record {
-      name = name;
-      open_few = omega (arith);
-      name_within = longer done b places.name_from within;
-      fits = refl;
-      named = tt;
-      known = tt;
-      leads = λ most rest others enough.
-          no_items items (Ahead outer done name (before_stands places) b most rest others)
-          (λ last. LevelsLeft outer most (drop places.name_from (done ++ b ∷ [])) name (before_stands places)
-          (length done + 1) rest last) others adds
-          (levels_same most (λ levels.
-          spaced_on (ByteThen (opening outer) (λ place text. FirstLeft (outermost outer levels) place text others))
-          (length done) b rest space
-          (λ place. byte_else (λ place text. FirstLeft (outermost outer levels) place text others) (opening outer) place
-          b rest (space_no_opening outer b space))));
-    })
+before_on outer done name places b within space = (
+  ([], refl),
+  λ items adds. record {
+    name = name;
+    open_few = omega (arith);
+    name_within = longer done b places.name_from within;
+    fits = refl;
+    named = tt;
+    known = tt;
+    leads = λ most rest others enough.
+        no_items items (Ahead outer done name (before_stands places) b most rest others)
+        (λ last. LevelsLeft outer most (drop places.name_from (done ++ b ∷ [])) name (before_stands places)
+        (length done + 1) rest last) others adds
+        (levels_same most (λ levels.
+        spaced_on (ByteThen (opening outer) (λ place text. FirstLeft (outermost outer levels) place text others))
+        (length done) b rest space
+        (λ place. byte_else (λ place text. FirstLeft (outermost outer levels) place text others) (opening outer) place
+        b rest (space_no_opening outer b space))));
+  },
+)
 
 fits_first : (outer : Bracket) → Fits outer First
 fits_first Array = tt
@@ -162,24 +165,26 @@ before_opens : (outer : Bracket) (done name : List ℕ) (places : Places) (b : �
     → places.name_from ≤ length done → is_space b ≡ false → b ≡ opening outer
     → Outcome outer (Ahead outer done name (before_stands places) b) done [] b
     (goes (to_mode (before_stands places) First))
-before_opens outer done name places b within tight opens =
-    (([], refl), λ items adds. record {
-      name = name;
-      open_few = omega (arith);
-      name_within = longer done b places.name_from within;
-      fits = fits_first outer;
-      named = tt;
-      known = known_first outer (IsKnown (done ++ b ∷ []) places name);
-      leads = λ most rest others enough.
-          no_items items (Ahead outer done name (before_stands places) b most rest others)
-          (λ last. LevelsLeft outer most (drop places.name_from (done ++ b ∷ [])) name
-          (to_mode (before_stands places) First) (length done + 1) rest last) others adds
-          (levels_same most (λ levels. through
-          (spaced_none (ByteThen (opening outer) (λ place text. FirstLeft (outermost outer levels) place text others))
-          (length done) b rest tight)
-          (byte_on (λ place text. FirstLeft (outermost outer levels) place text others) (opening outer)
-          (length done) b rest opens)));
-    })
+before_opens outer done name places b within tight opens = (
+  ([], refl),
+  λ items adds. record {
+    name = name;
+    open_few = omega (arith);
+    name_within = longer done b places.name_from within;
+    fits = fits_first outer;
+    named = tt;
+    known = known_first outer (IsKnown (done ++ b ∷ []) places name);
+    leads = λ most rest others enough.
+        no_items items (Ahead outer done name (before_stands places) b most rest others)
+        (λ last. LevelsLeft outer most (drop places.name_from (done ++ b ∷ [])) name
+        (to_mode (before_stands places) First) (length done + 1) rest last) others adds
+        (levels_same most (λ levels. through
+        (spaced_none (ByteThen (opening outer) (λ place text. FirstLeft (outermost outer levels) place text others))
+        (length done) b rest tight)
+        (byte_on (λ place text. FirstLeft (outermost outer levels) place text others) (opening outer)
+        (length done) b rest opens)));
+  },
+)
 
 before_stops : (outer : Bracket) (done name : List ℕ) (places : Places) (b : ℕ) → is_space b ≡ false
     → ¬ (b ≡ opening outer)
@@ -211,23 +216,25 @@ space_on b text space = (λ h. (and_parts _ _ h).1, λ h. and_from _ _ space h)
 behind_on : (outer : Bracket) (done name : List ℕ) (places : Places) (b : ℕ)
     → places.name_from ≤ length done → is_space b ≡ true
     → Outcome outer (Ahead outer done name (behind_stands places) b) done [] b (goes (behind_stands places))
-behind_on outer done name places b within space =
-    (([], refl), λ items adds. record {
-      name = name;
-      open_few = omega (arith);
-      name_within = longer done b places.name_from within;
-      fits = refl;
-      named = tt;
-      known = tt;
-      leads = λ most rest others enough.
-          no_items items (Ahead outer done name (behind_stands places) b most rest others)
-          (λ last. LevelsLeft outer most (drop places.name_from (done ++ b ∷ [])) name (behind_stands places)
-          (length done + 1) rest last) others adds
-          (levels_same most (λ levels. (
-            λ h. ((space_on b rest space).0 h.0, h.1),
-            λ h. ((space_on b rest space).1 h.0, h.1),
-          )));
-    })
+behind_on outer done name places b within space = (
+  ([], refl),
+  λ items adds. record {
+    name = name;
+    open_few = omega (arith);
+    name_within = longer done b places.name_from within;
+    fits = refl;
+    named = tt;
+    known = tt;
+    leads = λ most rest others enough.
+        no_items items (Ahead outer done name (behind_stands places) b most rest others)
+        (λ last. LevelsLeft outer most (drop places.name_from (done ++ b ∷ [])) name (behind_stands places)
+        (length done + 1) rest last) others adds
+        (levels_same most (λ levels. (
+          λ h. ((space_on b rest space).0 h.0, h.1),
+          λ h. ((space_on b rest space).1 h.0, h.1),
+        )));
+  },
+)
 
 behind_right : (outer : Bracket) (done name : List ℕ) (places : Places) (b : ℕ)
     → places.name_from ≤ length done

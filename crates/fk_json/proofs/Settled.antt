@@ -238,12 +238,13 @@ member_settled levels settled at x y a b one other h k e f g =
     let name_from : one.name_from ≡ other.name_from = omega (arith, h.from, k.from, ap length fronts) in
     let name_to : one.name_to ≡ other.name_to = omega (arith, h.to, k.to, name_from, ap length names) in
     let place : other.name_to + length k.after + 1 ≡ one.name_to + length h.after + 1 =
-        omega (arith, name_to, ap length afters) in
+    omega (arith, name_to, ap length afters) in
     let (rests, value) = element_settled levels settled (one.name_to + length h.after + 1) h.rest k.rest a b
     (value_span one) (value_span other) h.valued
-    (subst (λ n. IsElement (IsValue levels) n k.rest (value_span other)) place k.valued) (tail_of e3) f g in
-    (h.whole ∙ fives fronts names afters rests ∙ sym k.whole,
-    members called name_from name_to (ap (λ s. s.from) value) (ap (λ s. s.to) value))
+    (subst (λ n. IsElement (IsValue levels) n k.rest (value_span other)) place k.valued) (tail_of e3) f g in (
+      h.whole ∙ fives fronts names afters rests ∙ sym k.whole,
+      members called name_from name_to (ap (λ s. s.from) value) (ap (λ s. s.to) value),
+    )
 
 member_no_close : (levels : ℕ) → NoClose (IsMember (IsValue levels)) 125
 member_no_close levels at spaces rest x a one h space e =

@@ -18,7 +18,9 @@ spaced_behind : (IsRest : ℕ → List ℕ → Type 0) (at b : ℕ) (text : List
 spaced_behind IsRest at b text none [] rest s r e =
     absurd (none (at + 0) (subst (λ x. IsRest (at + 0) x) (sym e) r))
 spaced_behind IsRest at b text none (c ∷ spaces) rest s r e = (
-  spaces, rest, (and_parts _ _ s).1,
+  spaces,
+  rest,
+  (and_parts _ _ s).1,
   at_place IsRest (at + length (c ∷ spaces)) (at + 1 + length spaces) rest (omega arith) r,
   tail_of e,
 )
@@ -29,7 +31,9 @@ pub spaced_on : (IsRest : ℕ → List ℕ → Type 0) (at b : ℕ) (text : List
 spaced_on IsRest at b text is none = (
   λ h. spaced_behind IsRest at b text none h.0 h.1 h.2 h.3 h.4,
   λ h. (
-    b ∷ h.0, h.1, and_from _ _ is h.2,
+    b ∷ h.0,
+    h.1,
+    and_from _ _ is h.2,
     at_place IsRest (at + 1 + length h.0) (at + length (b ∷ h.0)) h.1 (omega arith) h.3,
     ap (λ x. b ∷ x) h.4,
   ),

@@ -27,55 +27,11 @@ use Rattle.fk_json.specs.declared.string_mode.StringMode.{StringMode}
 use Rattle.fk_json.specs.declared.string_mode.StringMode.TheVariants.{Inside}
 use Rattle.fk_json.specs.declared.token.Token.{Token}
 use Rattle.fk_json.specs.declared.token.Token.TheVariants.{Bracketed}
+use Rattle.fk_json.specs.Reached.{Finds, FitsIn, IsNamed, IsPast, KnownBetween, KnownIn, NamedIn}
 use Rattle.fk_json.proofs.Leads.{BetweenLeft, MovedLeft, NameLeads, begins_left, closes_inner, names_left, opens_left, opens_none, pending_at, to_left}
-use Rattle.fk_json.proofs.Steps.{IsNamed, through}
+use Rattle.fk_json.proofs.Steps.{through}
 use Rattle.fk_json.proofs.StringLeft.{string_begins, string_goes}
-use Rattle.fk_json.proofs.Tame.{IsAnObject, IsPast, IsTame, LedName, PastBy}
-
--- ---- what is known where a scan stands
-
-abbrev pub FitsIn : Bracket → List Bracket → Region → Type 0
-FitsIn outer inner (Between mode) = Fits (innermost outer inner) mode
-FitsIn outer inner Before = inner ≡ []
-FitsIn outer inner Behind = inner ≡ []
-
--- the name that is being read began with these bytes
-abbrev pub NamedIn : List ℕ → List Bracket → Region → Type 0
-NamedIn front inner (Between mode) = IsNamed mode (NameRest front inner mode)
-NamedIn front inner region = Unit {0}
-
--- it is known where a member's value is read
-abbrev pub KnownBetween : Bracket → List Bracket → Mode → Type 0 → Type 0
-KnownBetween Array inner mode X = Unit {0}
-KnownBetween Object [] mode X = IsPast mode → X
-KnownBetween Object (bracket ∷ inner) mode X = X
-
-abbrev pub KnownRegion : Bracket → List Bracket → Region → Type 0 → Type 0
-KnownRegion outer inner (Between mode) X = KnownBetween outer inner mode X
-KnownRegion outer inner region X = Unit {0}
-
-abbrev pub KnownIn : Bracket → List ℕ → List ℕ → Standing → Type 0
-KnownIn outer text name standing =
-    KnownRegion outer standing.inner standing.region (IsKnown text standing.places name)
-
--- the items that are found, and then those that are left
-abbrev pub Finds : {I : Type 0} → List I → (List I → Type 0) → List I → Type 0
-Finds {I} found IsLeft all = (others : List I) × (all ≡ found ++ others) × IsLeft others
-
--- What was read of a text, the items found in it, and where the scan stands: what is left is what
--- makes the whole a text, at each number of levels that is high enough.
-pub record Stands
-    (outer : Bracket) (done : List ℕ) (found : List (Item outer)) (standing : Standing) : Type 0 where
-  pub name : List ℕ
-  pub open_few : length standing.inner ≤ most_inner
-  pub name_within : standing.places.name_from ≤ length done
-  pub fits : FitsIn outer standing.inner standing.region
-  pub named : NamedIn (drop standing.places.name_from done) standing.inner standing.region
-  pub known : KnownIn outer done name standing
-  pub left : (most : ℕ) (rest : List ℕ) (all : List (Item outer)) → most_inner ≤ most
-      → (IsTextOf outer (suc most) (done ++ rest) all)
-      ↔ (Finds found (λ others. LevelsLeft outer most (drop standing.places.name_from done) name standing
-      (length done) rest others) all)
+use Rattle.fk_json.proofs.Tame.{IsAnObject, IsTame, LedName, PastBy}
 
 -- ---- one byte more
 
@@ -261,30 +217,32 @@ leads_to : (outer : Bracket) (IsBefore : Source outer) (done : List ℕ) (inner 
     (step.Goes (record { region = Between to; inner = inner; places = places }) item)
 leads_to outer IsBefore done inner places region mode to b item s =
     let front = grown_front done b places.name_from s.name_within in
-    let bracket = innermost outer inner in
-    (s.has, λ items adds. record {
-      name = s.name;
-      open_few = s.open_few;
-      name_within = one_longer done b places.name_from s.name_within;
-      fits = tame_fits bracket mode b to s.tame;
-      named = subst (λ x. IsNamed to (NameRest x inner to)) front
-      (tame_named bracket (drop places.name_from done) inner b mode to s.tame s.named);
-      known = known_between outer inner mode to (IsKnown done places s.name)
-      (IsKnown (done ++ b ∷ []) places s.name) (known_on done b places s.name)
-      (tame_past bracket mode b to s.tame) s.known;
-      leads = λ most rest others enough.
-          through (s.left items adds most rest others enough)
-          (finds_same items
-          (λ last. MovedLeft outer most (drop places.name_from done) (pending_of s.name places) inner mode
-          (length done) b rest last (To to))
-          (λ last. BetweenLeft outer most (drop places.name_from (done ++ b ∷ [])) (pending_of s.name places) inner
-          to (length done + 1) rest last) others
-          (λ last. subst (λ x. (MovedLeft outer most (drop places.name_from done) (pending_of s.name places) inner
-          mode (length done) b rest last (To to))
-          ↔ (BetweenLeft outer most x (pending_of s.name places) inner to (length done + 1) rest last)) front
-          (to_left outer most (drop places.name_from done) (pending_of s.name places) inner mode to (length done) b rest last
-          (tame_leads bracket mode b to s.tame))));
-    })
+    let bracket = innermost outer inner in (
+      s.has,
+      λ items adds. record {
+        name = s.name;
+        open_few = s.open_few;
+        name_within = one_longer done b places.name_from s.name_within;
+        fits = tame_fits bracket mode b to s.tame;
+        named = subst (λ x. IsNamed to (NameRest x inner to)) front
+            (tame_named bracket (drop places.name_from done) inner b mode to s.tame s.named);
+        known = known_between outer inner mode to (IsKnown done places s.name)
+            (IsKnown (done ++ b ∷ []) places s.name) (known_on done b places s.name)
+            (tame_past bracket mode b to s.tame) s.known;
+        leads = λ most rest others enough.
+            through (s.left items adds most rest others enough)
+            (finds_same items
+            (λ last. MovedLeft outer most (drop places.name_from done) (pending_of s.name places) inner mode
+            (length done) b rest last (To to))
+            (λ last. BetweenLeft outer most (drop places.name_from (done ++ b ∷ [])) (pending_of s.name places) inner
+            to (length done + 1) rest last) others
+            (λ last. subst (λ x. (MovedLeft outer most (drop places.name_from done) (pending_of s.name places) inner
+            mode (length done) b rest last (To to))
+            ↔ (BetweenLeft outer most x (pending_of s.name places) inner to (length done + 1) rest last)) front
+            (to_left outer most (drop places.name_from done) (pending_of s.name places) inner mode to (length done) b rest last
+            (tame_leads bracket mode b to s.tame))));
+      },
+    )
 
 -- the scan stands so, between the outermost brackets
 abbrev pub between_at : List Bracket → Places → Mode → Standing
@@ -332,46 +290,50 @@ leads_names : (outer : Bracket) (IsBefore : Source outer) (done : List ℕ) (inn
     (step.Goes (between_at inner (placed inner (record places { name_from = length done }) places) (Naming Inside)) item)
 leads_names outer IsBefore done [] places mode b item s =
     let e = last_byte done b in
-    let here = record places { name_from = length done } in
-    (s.has, λ items adds. record {
-      name = s.name;
-      open_few = s.open_few;
-      name_within = one_longer done b (length done) (omega arith);
-      fits = fits_name outer Inside s.tame.0;
-      named = subst (λ x. IsNamed (Naming Inside) (NameRest x [] (Naming Inside))) (sym e) (named_quote b s.tame.1);
-      known = known_none outer Inside (IsKnown (done ++ b ∷ []) here s.name);
-      leads = λ most rest others enough.
-          through (s.left items adds most rest others enough)
-          (finds_same items
-          (λ last. MovedLeft outer most (drop places.name_from done) (pending_of s.name places) [] mode
-          (length done) b rest last Names)
-          (λ last. BetweenLeft outer most (drop (length done) (done ++ b ∷ [])) (pending_of s.name here) []
-          (Naming Inside) (length done + 1) rest last) others
-          (λ last. subst (λ x. (MovedLeft outer most (drop places.name_from done) (pending_of s.name places) [] mode
-          (length done) b rest last Names)
-          ↔ (BetweenLeft outer most x (pending_of s.name here) [] (Naming Inside) (length done + 1) rest last)) (sym e)
-          (names_left most outer (drop places.name_from done) s.name places [] mode (length done) b rest last
-          (is_object outer s.tame.0) s.tame.1)));
-    })
-leads_names outer IsBefore done (c ∷ inner) places mode b item s =
-    (s.has, λ items adds. record {
-      name = s.name;
-      open_few = s.open_few;
-      name_within = one_longer done b places.name_from s.name_within;
-      fits = fits_name c Inside s.tame.0;
-      named = λ rest. (λ h. h.1, λ l. ([], l));
-      known = known_naming outer (c ∷ inner) mode Inside (IsKnown done places s.name)
-      (IsKnown (done ++ b ∷ []) places s.name) (known_on done b places s.name) s.known;
-      leads = λ most rest others enough.
-          through (s.left items adds most rest others enough)
-          (finds_same items
-          (λ last. MovedLeft outer most (drop places.name_from done) (pending_of s.name places) (c ∷ inner) mode
-          (length done) b rest last Names)
-          (λ last. BetweenLeft outer most (drop places.name_from (done ++ b ∷ [])) (pending_of s.name places) (c ∷ inner)
-          (Naming Inside) (length done + 1) rest last) others
-          (λ last. names_left most outer (drop places.name_from done) s.name places (c ∷ inner) mode (length done) b rest last
-          (is_object c s.tame.0) s.tame.1));
-    })
+    let here = record places { name_from = length done } in (
+      s.has,
+      λ items adds. record {
+        name = s.name;
+        open_few = s.open_few;
+        name_within = one_longer done b (length done) (omega arith);
+        fits = fits_name outer Inside s.tame.0;
+        named = subst (λ x. IsNamed (Naming Inside) (NameRest x [] (Naming Inside))) (sym e) (named_quote b s.tame.1);
+        known = known_none outer Inside (IsKnown (done ++ b ∷ []) here s.name);
+        leads = λ most rest others enough.
+            through (s.left items adds most rest others enough)
+            (finds_same items
+            (λ last. MovedLeft outer most (drop places.name_from done) (pending_of s.name places) [] mode
+            (length done) b rest last Names)
+            (λ last. BetweenLeft outer most (drop (length done) (done ++ b ∷ [])) (pending_of s.name here) []
+            (Naming Inside) (length done + 1) rest last) others
+            (λ last. subst (λ x. (MovedLeft outer most (drop places.name_from done) (pending_of s.name places) [] mode
+            (length done) b rest last Names)
+            ↔ (BetweenLeft outer most x (pending_of s.name here) [] (Naming Inside) (length done + 1) rest last)) (sym e)
+            (names_left most outer (drop places.name_from done) s.name places [] mode (length done) b rest last
+            (is_object outer s.tame.0) s.tame.1)));
+      },
+    )
+leads_names outer IsBefore done (c ∷ inner) places mode b item s = (
+  s.has,
+  λ items adds. record {
+    name = s.name;
+    open_few = s.open_few;
+    name_within = one_longer done b places.name_from s.name_within;
+    fits = fits_name c Inside s.tame.0;
+    named = λ rest. (λ h. h.1, λ l. ([], l));
+    known = known_naming outer (c ∷ inner) mode Inside (IsKnown done places s.name)
+        (IsKnown (done ++ b ∷ []) places s.name) (known_on done b places s.name) s.known;
+    leads = λ most rest others enough.
+        through (s.left items adds most rest others enough)
+        (finds_same items
+        (λ last. MovedLeft outer most (drop places.name_from done) (pending_of s.name places) (c ∷ inner) mode
+        (length done) b rest last Names)
+        (λ last. BetweenLeft outer most (drop places.name_from (done ++ b ∷ [])) (pending_of s.name places) (c ∷ inner)
+        (Naming Inside) (length done + 1) rest last) others
+        (λ last. names_left most outer (drop places.name_from done) s.name places (c ∷ inner) mode (length done) b rest last
+        (is_object c s.tame.0) s.tame.1));
+  },
+)
 
 known_begun : (outer : Bracket) (mode to : Mode) (X Y : Type 0) → (X → Y) → PastBy outer mode
     → KnownBetween outer [] mode X → KnownBetween outer [] to Y
@@ -394,45 +356,49 @@ leads_begins : (outer : Bracket) (IsBefore : Source outer) (done : List ℕ) (in
     → Outcome outer IsBefore done inner b
     (step.Goes (between_at inner (placed inner (record places { from = length done }) places) (Within token)) item)
 leads_begins outer IsBefore done [] places mode token b item s =
-    let here = record places { from = length done } in
-    (s.has, λ items adds. record {
-      name = s.name;
-      open_few = s.open_few;
-      name_within = one_longer done b places.name_from s.name_within;
-      fits = fits_within outer token;
-      named = tt;
-      known = known_begun outer mode (Within token) (IsKnown done places s.name) (IsKnown (done ++ b ∷ []) here s.name)
-      (λ known. known_from (done ++ b ∷ []) places (length done) s.name (known_on done b places s.name known))
-      s.tame s.known;
-      leads = λ most rest others enough.
-          through (s.left items adds most rest others enough)
-          (finds_same items
-          (λ last. MovedLeft outer most (drop places.name_from done) (pending_of s.name places) [] mode
-          (length done) b rest last (Begins token))
-          (λ last. BetweenLeft outer most (drop places.name_from (done ++ b ∷ [])) (pending_of s.name here) []
-          (Within token) (length done + 1) rest last) others
-          (λ last. begins_left outer most (drop places.name_from done) (drop places.name_from (done ++ b ∷ []))
-          s.name places [] mode token (length done) b rest last));
-    })
-leads_begins outer IsBefore done (c ∷ inner) places mode token b item s =
-    (s.has, λ items adds. record {
-      name = s.name;
-      open_few = s.open_few;
-      name_within = one_longer done b places.name_from s.name_within;
-      fits = fits_within c token;
-      named = tt;
-      known = known_inner outer c c inner inner mode (Within token) (IsKnown done places s.name)
-      (IsKnown (done ++ b ∷ []) places s.name) (known_on done b places s.name) s.known;
-      leads = λ most rest others enough.
-          through (s.left items adds most rest others enough)
-          (finds_same items
-          (λ last. MovedLeft outer most (drop places.name_from done) (pending_of s.name places) (c ∷ inner) mode
-          (length done) b rest last (Begins token))
-          (λ last. BetweenLeft outer most (drop places.name_from (done ++ b ∷ [])) (pending_of s.name places) (c ∷ inner)
-          (Within token) (length done + 1) rest last) others
-          (λ last. begins_left outer most (drop places.name_from done) (drop places.name_from (done ++ b ∷ []))
-          s.name places (c ∷ inner) mode token (length done) b rest last));
-    })
+    let here = record places { from = length done } in (
+      s.has,
+      λ items adds. record {
+        name = s.name;
+        open_few = s.open_few;
+        name_within = one_longer done b places.name_from s.name_within;
+        fits = fits_within outer token;
+        named = tt;
+        known = known_begun outer mode (Within token) (IsKnown done places s.name) (IsKnown (done ++ b ∷ []) here s.name)
+            (λ known. known_from (done ++ b ∷ []) places (length done) s.name (known_on done b places s.name known))
+            s.tame s.known;
+        leads = λ most rest others enough.
+            through (s.left items adds most rest others enough)
+            (finds_same items
+            (λ last. MovedLeft outer most (drop places.name_from done) (pending_of s.name places) [] mode
+            (length done) b rest last (Begins token))
+            (λ last. BetweenLeft outer most (drop places.name_from (done ++ b ∷ [])) (pending_of s.name here) []
+            (Within token) (length done + 1) rest last) others
+            (λ last. begins_left outer most (drop places.name_from done) (drop places.name_from (done ++ b ∷ []))
+            s.name places [] mode token (length done) b rest last));
+      },
+    )
+leads_begins outer IsBefore done (c ∷ inner) places mode token b item s = (
+  s.has,
+  λ items adds. record {
+    name = s.name;
+    open_few = s.open_few;
+    name_within = one_longer done b places.name_from s.name_within;
+    fits = fits_within c token;
+    named = tt;
+    known = known_inner outer c c inner inner mode (Within token) (IsKnown done places s.name)
+        (IsKnown (done ++ b ∷ []) places s.name) (known_on done b places s.name) s.known;
+    leads = λ most rest others enough.
+        through (s.left items adds most rest others enough)
+        (finds_same items
+        (λ last. MovedLeft outer most (drop places.name_from done) (pending_of s.name places) (c ∷ inner) mode
+        (length done) b rest last (Begins token))
+        (λ last. BetweenLeft outer most (drop places.name_from (done ++ b ∷ [])) (pending_of s.name places) (c ∷ inner)
+        (Within token) (length done + 1) rest last) others
+        (λ last. begins_left outer most (drop places.name_from done) (drop places.name_from (done ++ b ∷ []))
+        s.name places (c ∷ inner) mode token (length done) b rest last));
+  },
+)
 
 -- ---- brackets open and close
 
@@ -447,45 +413,49 @@ leads_opens : (outer : Bracket) (IsBefore : Source outer) (done : List ℕ) (inn
     → Outcome outer IsBefore done inner b
     (step.Goes (between_at (c ∷ inner) (begun_places inner places (length done)) First) item)
 leads_opens outer IsBefore done [] places mode c b item room s =
-    let here = record places { from = length done } in
-    (s.has, λ items adds. record {
-      name = s.name;
-      open_few = omega (arith, room);
-      name_within = one_longer done b places.name_from s.name_within;
-      fits = fits_first c;
-      named = tt;
-      known = known_deeper outer mode c First (IsKnown done places s.name) (IsKnown (done ++ b ∷ []) here s.name)
-      (λ known. known_from (done ++ b ∷ []) places (length done) s.name (known_on done b places s.name known))
-      s.tame s.known;
-      leads = λ most rest others enough.
-          through (s.left items adds most rest others enough)
-          (finds_same items
-          (λ last. MovedLeft outer most (drop places.name_from done) (pending_of s.name places) [] mode
-          (length done) b rest last (Opens c))
-          (λ last. BetweenLeft outer most (drop places.name_from (done ++ b ∷ [])) (pending_of s.name here) (c ∷ [])
-          First (length done + 1) rest last) others
-          (λ last. opens_left outer most (drop places.name_from done) (drop places.name_from (done ++ b ∷ []))
-          s.name places [] mode c (length done) b rest last));
-    })
-leads_opens outer IsBefore done (d ∷ inner) places mode c b item room s =
-    (s.has, λ items adds. record {
-      name = s.name;
-      open_few = omega (arith, room);
-      name_within = one_longer done b places.name_from s.name_within;
-      fits = fits_first c;
-      named = tt;
-      known = known_inner outer d c inner (d ∷ inner) mode First (IsKnown done places s.name)
-      (IsKnown (done ++ b ∷ []) places s.name) (known_on done b places s.name) s.known;
-      leads = λ most rest others enough.
-          through (s.left items adds most rest others enough)
-          (finds_same items
-          (λ last. MovedLeft outer most (drop places.name_from done) (pending_of s.name places) (d ∷ inner) mode
-          (length done) b rest last (Opens c))
-          (λ last. BetweenLeft outer most (drop places.name_from (done ++ b ∷ [])) (pending_of s.name places)
-          (c ∷ d ∷ inner) First (length done + 1) rest last) others
-          (λ last. opens_left outer most (drop places.name_from done) (drop places.name_from (done ++ b ∷ []))
-          s.name places (d ∷ inner) mode c (length done) b rest last));
-    })
+    let here = record places { from = length done } in (
+      s.has,
+      λ items adds. record {
+        name = s.name;
+        open_few = omega (arith, room);
+        name_within = one_longer done b places.name_from s.name_within;
+        fits = fits_first c;
+        named = tt;
+        known = known_deeper outer mode c First (IsKnown done places s.name) (IsKnown (done ++ b ∷ []) here s.name)
+            (λ known. known_from (done ++ b ∷ []) places (length done) s.name (known_on done b places s.name known))
+            s.tame s.known;
+        leads = λ most rest others enough.
+            through (s.left items adds most rest others enough)
+            (finds_same items
+            (λ last. MovedLeft outer most (drop places.name_from done) (pending_of s.name places) [] mode
+            (length done) b rest last (Opens c))
+            (λ last. BetweenLeft outer most (drop places.name_from (done ++ b ∷ [])) (pending_of s.name here) (c ∷ [])
+            First (length done + 1) rest last) others
+            (λ last. opens_left outer most (drop places.name_from done) (drop places.name_from (done ++ b ∷ []))
+            s.name places [] mode c (length done) b rest last));
+      },
+    )
+leads_opens outer IsBefore done (d ∷ inner) places mode c b item room s = (
+  s.has,
+  λ items adds. record {
+    name = s.name;
+    open_few = omega (arith, room);
+    name_within = one_longer done b places.name_from s.name_within;
+    fits = fits_first c;
+    named = tt;
+    known = known_inner outer d c inner (d ∷ inner) mode First (IsKnown done places s.name)
+        (IsKnown (done ++ b ∷ []) places s.name) (known_on done b places s.name) s.known;
+    leads = λ most rest others enough.
+        through (s.left items adds most rest others enough)
+        (finds_same items
+        (λ last. MovedLeft outer most (drop places.name_from done) (pending_of s.name places) (d ∷ inner) mode
+        (length done) b rest last (Opens c))
+        (λ last. BetweenLeft outer most (drop places.name_from (done ++ b ∷ [])) (pending_of s.name places)
+        (c ∷ d ∷ inner) First (length done + 1) rest last) others
+        (λ last. opens_left outer most (drop places.name_from done) (drop places.name_from (done ++ b ∷ []))
+        s.name places (d ∷ inner) mode c (length done) b rest last));
+  },
+)
 
 deepens : (outer : Bracket) (IsBefore : Source outer) (done : List ℕ) (inner : List Bracket)
     (places : Places) (mode : Mode) (c : Bracket) (b : ℕ) (item : Option Found)
@@ -502,11 +472,15 @@ deepens outer IsBefore done inner places mode c b item full s =
       drop places.name_from (done ++ b ∷ []),
       pending_at inner s.name (record places { from = length done }) places,
       c,
-      λ rest last later.
-          (items ++ last,
-          (s.left items adds (suc most_inner) rest (items ++ last) (omega arith)).1
-          (last, refl, (opens_left outer (suc most_inner) (drop places.name_from done)
-          (drop places.name_from (done ++ b ∷ [])) s.name places inner mode c (length done) b rest last).1 later)),
+      λ rest last later. (
+        items ++ last,
+        (s.left items adds (suc most_inner) rest (items ++ last) (omega arith)).1 (
+          last,
+          refl,
+          (opens_left outer (suc most_inner) (drop places.name_from done)
+              (drop places.name_from (done ++ b ∷ [])) s.name places inner mode c (length done) b rest last).1 later,
+        ),
+      ),
       omega (arith, full, s.open_few),
     )
 
@@ -531,35 +505,39 @@ leads_closes : (outer : Bracket) (IsBefore : Source outer) (done : List ℕ) (in
     (places : Places) (mode : Mode) (b : ℕ) (item : Option Found)
     → Stage outer IsBefore done inner places mode b item Closes
     → Outcome outer IsBefore done inner b (step.Goes (closed_in inner places) item)
-leads_closes outer IsBefore done [] places mode b item s =
-    (s.has, λ items adds. record {
-      name = s.name;
-      open_few = s.open_few;
-      name_within = one_longer done b places.name_from s.name_within;
-      fits = refl;
-      named = tt;
-      known = tt;
-      leads = λ most rest others enough. s.left items adds most rest others enough;
-    })
-leads_closes outer IsBefore done (c ∷ inner) places mode b item s =
-    (s.has, λ items adds. record {
-      name = s.name;
-      open_few = omega (arith, s.open_few);
-      name_within = one_longer done b places.name_from s.name_within;
-      fits = fits_within (innermost outer inner) Bracketed;
-      named = tt;
-      known = known_closed outer c inner mode (Within Bracketed) (IsKnown done places s.name)
-      (IsKnown (done ++ b ∷ []) places s.name) (known_on done b places s.name) s.known;
-      leads = λ most rest others enough.
-          through (s.left items adds most rest others enough)
-          (finds_same items
-          (λ last. MovedLeft outer most (drop places.name_from done) (pending_of s.name places) (c ∷ inner) mode
-          (length done) b rest last Closes)
-          (λ last. BetweenLeft outer most (drop places.name_from (done ++ b ∷ [])) (pending_of s.name places) inner
-          (Within Bracketed) (length done + 1) rest last) others
-          (λ last. closes_inner outer most (drop places.name_from done) (drop places.name_from (done ++ b ∷ []))
-          (pending_of s.name places) c inner mode (length done) b rest last (omega (arith, s.open_few, enough))));
-    })
+leads_closes outer IsBefore done [] places mode b item s = (
+  s.has,
+  λ items adds. record {
+    name = s.name;
+    open_few = s.open_few;
+    name_within = one_longer done b places.name_from s.name_within;
+    fits = refl;
+    named = tt;
+    known = tt;
+    leads = λ most rest others enough. s.left items adds most rest others enough;
+  },
+)
+leads_closes outer IsBefore done (c ∷ inner) places mode b item s = (
+  s.has,
+  λ items adds. record {
+    name = s.name;
+    open_few = omega (arith, s.open_few);
+    name_within = one_longer done b places.name_from s.name_within;
+    fits = fits_within (innermost outer inner) Bracketed;
+    named = tt;
+    known = known_closed outer c inner mode (Within Bracketed) (IsKnown done places s.name)
+        (IsKnown (done ++ b ∷ []) places s.name) (known_on done b places s.name) s.known;
+    leads = λ most rest others enough.
+        through (s.left items adds most rest others enough)
+        (finds_same items
+        (λ last. MovedLeft outer most (drop places.name_from done) (pending_of s.name places) (c ∷ inner) mode
+        (length done) b rest last Closes)
+        (λ last. BetweenLeft outer most (drop places.name_from (done ++ b ∷ [])) (pending_of s.name places) inner
+        (Within Bracketed) (length done + 1) rest last) others
+        (λ last. closes_inner outer most (drop places.name_from done) (drop places.name_from (done ++ b ∷ []))
+        (pending_of s.name places) c inner mode (length done) b rest last (omega (arith, s.open_few, enough))));
+  },
+)
 
 -- ---- all moves
 
@@ -575,8 +553,8 @@ stops : (outer : Bracket) (IsBefore : Source outer) (done : List ℕ) (inner : L
     → Outcome outer IsBefore done inner b step.Stops
 stops outer IsBefore done inner places mode b item s =
     λ most rest others enough before.
-        let h = (s.left s.has.0 s.has.1 most rest others enough).0 before in
-        h.2.2
+    let h = (s.left s.has.0 s.has.1 most rest others enough).0 before in
+    h.2.2
 
 pub moved_right : (outer : Bracket) (IsBefore : Source outer) (done : List ℕ) (region : Region)
     (inner : List Bracket) (places : Places) (mode : Mode) (b : ℕ) (item : Option Found) (move : Move)

@@ -15,6 +15,7 @@ use Rattle.fk_json.specs.declared.mode.Move.{Move}
 use Rattle.fk_json.specs.declared.mode.Move.TheVariants.{To, Names, Begins, Opens, Closes, Named, Ended, Stops}
 use Rattle.fk_json.specs.declared.string_mode.StringMode.{StringMode}
 use Rattle.fk_json.specs.declared.token.Token.{Token}
+use Rattle.fk_json.specs.Reached.{IsNamed}
 use Rattle.fk_json.proofs.Fronts.{Closing, EndedLeft, EndedName, after_empty, after_follows, colon_empty, name_empty, within_empty, name_ended, name_on, tail_close, tail_comma, tail_else, tail_space, within_ended, within_on, within_stops}
 use Rattle.fk_json.proofs.Items.{elements_apart, members_apart}
 use Rattle.fk_json.proofs.Spaces.{byte_else, byte_nil, byte_on, spaced_nil, spaced_none, spaced_on}
@@ -99,11 +100,6 @@ MoveLeft Object F levels IsName pending b at text found Named =
 MoveLeft bracket F levels IsName pending b at text found Ended =
     EndedLeft F (ended bracket pending) at (b ∷ text) found
 MoveLeft bracket F levels IsName pending b at text found Stops = ⊥
-
--- the rests of a name are those of its mode
-abbrev pub IsNamed : Mode → (List ℕ → List ℕ → Type 0) → Type 0
-IsNamed (Naming mode) IsName = (rest : List ℕ) → ((name : List ℕ) × IsName rest name) ↔ (StringLeft mode rest)
-IsNamed mode IsName = Unit {0}
 
 -- ---- where a value begins
 
@@ -354,7 +350,7 @@ first_empty : {O : Type 0} (bracket : Bracket) (levels : ℕ) (note : Item brack
 first_empty bracket levels note Behind at found h =
     let closes = λ (place : ℕ) (rest : List ℕ). Behind place rest found in
     elim h as (λ _. ⊥) [
-      inl p ↦ items_empty bracket levels note Behind at found p
+      | inl p ↦ items_empty bracket levels note Behind at found p
       | inr p ↦ byte_nil closes (closing bracket) at ((spaced_nil (ByteThen (closing bracket) closes) at).0 p)
     ]
 

@@ -13,16 +13,7 @@ use Rattle.fk_json.specs.declared.mode.Move.{Move}
 use Rattle.fk_json.specs.declared.mode.Move.TheVariants.{To, Names, Begins, Opens, Closes, Named, Ended, Stops}
 use Rattle.fk_json.specs.declared.string_mode.StringMode.{StringMode}
 use Rattle.fk_json.specs.declared.token.Token.{Token}
-
--- the name of the item that is being read was read
-abbrev pub IsPast : Mode → Type 0
-IsPast First = ⊥
-IsPast Next = ⊥
-IsPast (Naming mode) = ⊥
-IsPast Colon = Unit {0}
-IsPast Value = Unit {0}
-IsPast (Within token) = Unit {0}
-IsPast After = ⊥
+use Rattle.fk_json.specs.Reached.{IsPast}
 
 abbrev pub PastBy : Bracket → Mode → Type 0
 PastBy Array mode = Unit {0}

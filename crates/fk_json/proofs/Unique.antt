@@ -95,11 +95,19 @@ meaning_short (unit a b c d ∷ byte e ∷ ps) =
 meaning_short (unit a b c d ∷ letter e ∷ ps) =
     omega (arith, unit_short (code_unit a b c d) _ (meaning (letter e ∷ ps)) (meaning_short (letter e ∷ ps)))
 meaning_short (unit a b c d ∷ unit e f g h ∷ ps) =
-    omega (arith, pair_short (code_unit a b c d) (code_unit e f g h) (length (flat_map part_text ps)) (meaning ps)
-    (meaning (unit e f g h ∷ ps)) (meaning_short ps) (omega (arith, meaning_short (unit e f g h ∷ ps)))
-    (is_high_surrogate (code_unit a b c d) && is_low_surrogate (code_unit e f g h)))
+    omega (
+      arith,
+      pair_short (code_unit a b c d) (code_unit e f g h) (length (flat_map part_text ps)) (meaning ps)
+          (meaning (unit e f g h ∷ ps)) (meaning_short ps) (omega (arith, meaning_short (unit e f g h ∷ ps)))
+          (is_high_surrogate (code_unit a b c d) && is_low_surrogate (code_unit e f g h)),
+    )
 
 pub string_shorter : (text value : List ℕ) → IsString text value → length value ≤ length text
 string_shorter text value is =
-    omega (arith, meaning_short is.parts, ap length is.means, ap length is.whole,
-    length-append (flat_map part_text is.parts) (34 ∷ []))
+    omega (
+      arith,
+      meaning_short is.parts,
+      ap length is.means,
+      ap length is.whole,
+      length-append (flat_map part_text is.parts) (34 ∷ []),
+    )

@@ -78,15 +78,15 @@ begun_at b text =
       | inl e ↦ subst (λ x. Begun (token_first x) x text) (sym e) (quoted_begins text)
       | inr q ↦ elim (cases_eq b 110) [
         | inl e ↦ subst (λ x. Begun (token_first x) x text) (sym e)
-          (literal_begins 110 text Ull (omega arith) refl (literal_null 110 text refl))
+            (literal_begins 110 text Ull (omega arith) refl (literal_null 110 text refl))
         | inr n ↦ elim (cases_eq b 116) [
           | inl e ↦ subst (λ x. Begun (token_first x) x text) (sym e)
-            (literal_begins 116 text Rue (omega arith) refl (literal_true 116 text refl))
+              (literal_begins 116 text Rue (omega arith) refl (literal_true 116 text refl))
           | inr t ↦ elim (cases_eq b 102) [
             | inl e ↦ subst (λ x. Begun (token_first x) x text) (sym e)
-              (literal_begins 102 text Alse (omega arith) refl (literal_false 102 text refl))
+                (literal_begins 102 text Alse (omega arith) refl (literal_false 102 text refl))
             | inr f ↦ subst (λ o. Begun o b text) (other_first b (q, n, t, f))
-              (by_number b text (q, n, t, f) (number_first b) refl)
+                (by_number b text (q, n, t, f) (number_first b) refl)
           ]
         ]
       ]

@@ -10,5 +10,7 @@ pub mod Brackets
 pub mod Left
 pub mod Standing
 pub mod Remainder
+pub mod Reached
+pub mod Cursors
 pub mod Pairs
 pub mod Pieces

@@ -46,17 +46,17 @@ placed (bracket ∷ inner) noted places = places
 
 abbrev pub named_at : Standing → ℕ → Standing
 named_at standing at = record standing {
-  places = placed standing.inner (record (standing.places) { name_to = at }) standing.places
+  places = placed standing.inner (record (standing.places) { name_to = at }) standing.places;
 }
 
 abbrev pub names_at : Standing → ℕ → Standing
 names_at standing at = record standing {
-  places = placed standing.inner (record (standing.places) { name_from = at }) standing.places
+  places = placed standing.inner (record (standing.places) { name_from = at }) standing.places;
 }
 
 abbrev pub begun_at : Standing → ℕ → Standing
 begun_at standing at = record standing {
-  places = placed standing.inner (record (standing.places) { from = at }) standing.places
+  places = placed standing.inner (record (standing.places) { from = at }) standing.places;
 }
 
 abbrev pub found_in : List Bracket → Found → Option Found

@@ -3,6 +3,7 @@
 #![tactic(auto)]
 
 mod brackets;
+mod cursor;
 mod fault;
 mod member;
 mod mode;
@@ -12,6 +13,10 @@ mod pairs;
 mod piece;
 mod plain;
 mod scan;
+#[cfg(test)]
+mod scan_part_tests;
+#[cfg(test)]
+mod scan_tests;
 mod span;
 mod standing;
 mod string;

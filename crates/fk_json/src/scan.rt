@@ -10,8 +10,9 @@ ghost use Rattle.fk_json.specs.declared.member.Member as declared_member;
 ghost use Rattle.fk_json.specs.declared.mode.Bracket.TheVariants.{Array, Object};
 ghost use Rattle.fk_json.specs.declared.span.Span as declared_span;
 
+use crate::cursor::{Next, first_cursor, next_found};
 use crate::mode::Bracket;
-use crate::standing::{Found, Places, Step, first_standing, is_whole, read};
+use crate::standing::{Found, Places};
 use crate::{JsonFault, Member, Members, Span, Spans, Text, string_value};
 use std::alloc::{AllocError, Global};
 
@@ -26,23 +27,16 @@ pub fn scan_object(alloc: Global, text: &[u8]) -> Result<Members, JsonFault>
         → MatchResult result (λ found. found ≡ members) (λ fault. fault ≡ NoMemory) }
 {
     let mut members = Members::new(alloc);
-    let mut standing = first_standing();
-    let mut at = 0;
-    'bytes: while at < text.len() {
-        match read(Bracket::Object, standing, at, text[at]) {
-            Step::Goes(next, found) => {
-                keep_member(alloc, text, &mut members, found)?;
-                standing = next;
+    let mut cursor = first_cursor();
+    'items: loop {
+        match next_found(Bracket::Object, text, cursor) {
+            Ok(Next::Found(found, behind)) => {
+                push_member(alloc, text, &mut members, found)?;
+                cursor = behind;
             }
-            Step::TooDeep => return Err(JsonFault::TooDeep(at)),
-            Step::Stops => return Err(JsonFault::Syntax(at)),
+            Ok(Next::End) => return Ok(members),
+            Err(fault) => return Err(fault),
         }
-        at += 1;
-    }
-    if is_whole(standing) {
-        Ok(members)
-    } else {
-        Err(JsonFault::Syntax(text.len()))
     }
 }
 
@@ -57,44 +51,23 @@ pub fn scan_array(alloc: Global, text: &[u8]) -> Result<Spans, JsonFault>
         → MatchResult result (λ found. found ≡ elements) (λ fault. fault ≡ NoMemory) }
 {
     let mut elements = Spans::new(alloc);
-    let mut standing = first_standing();
-    let mut at = 0;
-    'bytes: while at < text.len() {
-        match read(Bracket::Array, standing, at, text[at]) {
-            Step::Goes(next, found) => {
-                keep_element(&mut elements, found)?;
-                standing = next;
+    let mut cursor = first_cursor();
+    'items: loop {
+        match next_found(Bracket::Array, text, cursor) {
+            Ok(Next::Found(found, behind)) => {
+                elements.push(Span {
+                    from: found.places.from,
+                    to: found.to,
+                })?;
+                cursor = behind;
             }
-            Step::TooDeep => return Err(JsonFault::TooDeep(at)),
-            Step::Stops => return Err(JsonFault::Syntax(at)),
+            Ok(Next::End) => return Ok(elements),
+            Err(fault) => return Err(fault),
         }
-        at += 1;
-    }
-    if is_whole(standing) {
-        Ok(elements)
-    } else {
-        Err(JsonFault::Syntax(text.len()))
     }
 }
 
-// Adds the member that was found, if one was.
-fn keep_member(
-    alloc: Global,
-    text: &[u8],
-    members: &mut Members,
-    found: Option<Found>,
-) -> Result<(), JsonFault>
-    requires { HasName text.now found }
-    ensures ok { OnOk result ((items : List declared_member.Member) × Adds Object text.now found items
-        × (members.new ≡ members.old ++ items)) }
-    ensures err { IfErr result (λ fault. fault ≡ NoMemory) }
-{
-    match found {
-        Some(found) => push_member(alloc, text, members, found),
-        None => Ok(()),
-    }
-}
-
+// Adds the member that was found.
 fn push_member(
     alloc: Global,
     text: &[u8],
@@ -125,19 +98,4 @@ fn name_at(alloc: Global, text: &[u8], places: Places) -> Result<Option<Text>, A
     ensures { IfOk result (λ found. MatchOption found ⊥ (λ name. IsKnown text.now places name)) }
 {
     string_value(alloc, &text[places.name_from..places.name_to])
-}
-
-// Adds the element that was found, if one was.
-fn keep_element(elements: &mut Spans, found: Option<Found>) -> Result<(), JsonFault>
-    ensures ok { OnOk result ((items : List declared_span.Span) × Adds Array [] found items
-        × (elements.new ≡ elements.old ++ items)) }
-    ensures err { IfErr result (λ fault. fault ≡ NoMemory) }
-{
-    if let Some(found) = found {
-        elements.push(Span {
-            from: found.places.from,
-            to: found.to,
-        })?;
-    }
-    Ok(())
 }

@@ -92,7 +92,11 @@ fn behind_backslash(byte: u8) -> Option<StringMode>
 fn digit_then(byte: u8, next: StringMode) -> Option<StringMode>
     ensures { result ≡ digit_then byte next }
 {
-    if is_hexadecimal(byte) { Some(next) } else { None }
+    if is_hexadecimal(byte) {
+        Some(next)
+    } else {
+        None
+    }
 }
 
 fn is_hexadecimal(byte: u8) -> bool

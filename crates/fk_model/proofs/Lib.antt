@@ -1,1 +1,4 @@
 pub mod Advance
+pub mod Histories
+pub mod ToldApart
+pub mod Sorting

@@ -1,3 +1,17 @@
 pub mod Commands
 pub mod Script
 pub mod Advance
+pub mod MoveList
+pub mod Limits
+pub mod Rows
+pub mod State
+pub mod Orders
+pub mod Spellings
+pub mod Range
+pub mod Between
+pub mod Changes
+pub mod Requests
+pub mod Said
+pub mod Turns
+pub mod Answers
+pub mod History

@@ -1,73 +1,40 @@
-use Rattle.std.proofs.Common.{refl, sym, ◌∙◌}
-use Rattle.fk_json.specs.Json.{most_levels}
-use Rattle.fk_json.specs.Remainder.{IsTextOf}
-use Rattle.fk_json.specs.declared.mode.Bracket.TheVariants.{Object}
+use Rattle.std.proofs.Common.{refl, sym}
 use Rattle.fk_json.specs.Members.{inner_levels}
+use Rattle.fk_json.specs.declared.mode.Bracket.TheVariants.{Object}
 use Rattle.fk_json.proofs.MemberPlaces.{members_in}
-use Rattle.fk_json.proofs.ReadTo.{deep_none, read_deep, read_early, read_ended, read_adds, read_starts, read_stops, read_name}
+use Rattle.fk_json.proofs.ReadTo.{ends_there, only_memory, starts_at, finds_member}
 use Rattle.fk_json.proofs.scan.scan_object.Goals as goal
 
-pub bytes-init : goal.bytes-init
-bytes-init c =
-    read_starts Object c.args.text.now c.new-members.result c.first_standing-standing.result
-    c.new-members.ensures c.first_standing-standing.ensures
+pub items-init : goal.items-init
+items-init c =
+    starts_at Object c.args.text.now c.new-members.result c.first_cursor-cursor.result c.new-members.ensures
+    c.first_cursor-cursor.ensures.at c.first_cursor-cursor.ensures.standing
 
-pub returns-in-TooDeep-clause-fault : goal.returns-in-TooDeep-clause-fault
-returns-in-TooDeep-clause-fault c =
-    read_deep Object c.args.text.now c.bytes.at c.bytes.members c.bytes.standing c.bytes-test.true
-    c.bytes.invariant (sym c.in-TooDeep.is ∙ c.read.ensures)
+pub push_member-requires : goal.push_member-requires
+push_member-requires c =
+    let s = c.in-Ok-Found in
+    finds_member c.args.text.now c.items.members c.items.cursor s.behind s.field-0 s.found s.ensures.ok s.field-0-is
+    c.items.invariant
 
-pub returns-in-TooDeep-clause-whole : goal.returns-in-TooDeep-clause-whole
-returns-in-TooDeep-clause-whole c = λ items is.
-    absurd (deep_none (IsTextOf Object) c.args.text.now c.bytes.at items
-    (read_deep Object c.args.text.now c.bytes.at c.bytes.members c.bytes.standing c.bytes-test.true
-    c.bytes.invariant (sym c.in-TooDeep.is ∙ c.read.ensures)) is)
+pub returns-in-Ok-End-clause-ok : goal.returns-in-Ok-End-clause-ok
+returns-in-Ok-End-clause-ok c =
+    (ends_there Object c.args.text.now c.items.members c.items.members c.items.cursor c.in-Ok-End.field-0
+    c.in-Ok-End.ensures.ok c.in-Ok-End.field-0-is c.items.invariant).1 refl
 
-pub returns-in-Stops-clause-fault : goal.returns-in-Stops-clause-fault
-returns-in-Stops-clause-fault c =
-    read_stops Object c.args.text.now c.bytes.at c.bytes.members c.bytes.standing c.bytes-test.true
-    c.bytes.invariant (sym c.in-Stops.is ∙ c.read.ensures)
+pub returns-in-Ok-End-clause-placed : goal.returns-in-Ok-End-clause-placed
+returns-in-Ok-End-clause-placed c =
+    members_in inner_levels c.args.text.now c.items.members
+    ((ends_there Object c.args.text.now c.items.members c.items.members c.items.cursor c.in-Ok-End.field-0
+    c.in-Ok-End.ensures.ok c.in-Ok-End.field-0-is c.items.invariant).1 refl)
 
-pub returns-in-Stops-clause-whole : goal.returns-in-Stops-clause-whole
-returns-in-Stops-clause-whole c = λ items is.
-    let fails = read_stops Object c.args.text.now c.bytes.at c.bytes.members c.bytes.standing c.bytes-test.true
-    c.bytes.invariant (sym c.in-Stops.is ∙ c.read.ensures) in
-    absurd (fails.none most_levels items is)
+pub returns-in-Ok-End-clause-whole : goal.returns-in-Ok-End-clause-whole
+returns-in-Ok-End-clause-whole c = λ items is.
+    sym ((ends_there Object c.args.text.now c.items.members items c.items.cursor c.in-Ok-End.field-0
+    c.in-Ok-End.ensures.ok c.in-Ok-End.field-0-is c.items.invariant).0 is)
 
-pub keep_member-requires : goal.keep_member-requires
-keep_member-requires c =
-    read_name c.args.text.now c.bytes.at c.bytes.members c.bytes.standing c.in-Goes.next c.in-Goes.found
-    c.bytes-test.true c.bytes.invariant (sym c.in-Goes.is ∙ c.read.ensures)
+pub returns-in-Err-clause-fault : goal.returns-in-Err-clause-fault
+returns-in-Err-clause-fault c = c.in-Err.ensures.fault c.items.members c.items.invariant
 
-pub bytes-preserved : goal.bytes-preserved
-bytes-preserved c =
-    read_adds Object c.args.text.now c.bytes.at c.bytes.members c.keep_member.new.members c.bytes.standing
-    c.in-Goes.next c.in-Goes.found c.bytes-test.true c.bytes.invariant (sym c.in-Goes.is ∙ c.read.ensures)
-    c.in_ok-keep_member-in-Goes.ensures.ok
-
-pub returns-then-is_whole-clause-ok : goal.returns-then-is_whole-clause-ok
-returns-then-is_whole-clause-ok c =
-    (read_ended Object c.args.text.now c.bytes.at c.bytes.members c.bytes.members c.bytes.standing c.bytes-test.false
-    c.bytes.invariant (sym c.is_whole.ensures ∙ c.if-is_whole.true)).1 refl
-
-pub returns-then-is_whole-clause-placed : goal.returns-then-is_whole-clause-placed
-returns-then-is_whole-clause-placed c =
-    members_in inner_levels c.args.text.now c.bytes.members
-    ((read_ended Object c.args.text.now c.bytes.at c.bytes.members c.bytes.members c.bytes.standing c.bytes-test.false
-    c.bytes.invariant (sym c.is_whole.ensures ∙ c.if-is_whole.true)).1 refl)
-
-pub returns-then-is_whole-clause-whole : goal.returns-then-is_whole-clause-whole
-returns-then-is_whole-clause-whole c = λ items is.
-    sym ((read_ended Object c.args.text.now c.bytes.at c.bytes.members items c.bytes.standing c.bytes-test.false
-    c.bytes.invariant (sym c.is_whole.ensures ∙ c.if-is_whole.true)).0 is)
-
-pub returns-else-is_whole-clause-fault : goal.returns-else-is_whole-clause-fault
-returns-else-is_whole-clause-fault c =
-    read_early Object c.args.text.now c.bytes.at c.bytes.members c.bytes.standing c.bytes-test.false
-    c.bytes.invariant (sym c.is_whole.ensures ∙ c.if-is_whole.false)
-
-pub returns-else-is_whole-clause-whole : goal.returns-else-is_whole-clause-whole
-returns-else-is_whole-clause-whole c = λ items is.
-    let fails = read_early Object c.args.text.now c.bytes.at c.bytes.members c.bytes.standing c.bytes-test.false
-    c.bytes.invariant (sym c.is_whole.ensures ∙ c.if-is_whole.false) in
-    absurd (fails.none most_levels items is)
+pub returns-in-Err-clause-whole : goal.returns-in-Err-clause-whole
+returns-in-Err-clause-whole c = λ items is.
+    only_memory Object c.args.text.now c.in-Err.fault items (c.in-Err.ensures.fault c.items.members c.items.invariant) is

@@ -1,0 +1,81 @@
+// A text of one object or one array, read from one item to the next.
+ghost use Rattle.std.specs.Prelude.{◌≡◌, ◌+◌, ◌-◌, ◌<◌, ◌^◌, List, length, IfErr, IfOk};
+ghost use Rattle.fk_json.specs.Json.{Faults};
+ghost use Rattle.fk_json.specs.Left.{Item};
+ghost use Rattle.fk_json.specs.Cursors.{GoesFarther, LeadsTo};
+ghost use Rattle.fk_json.specs.Reached.{IsReadTo};
+ghost use Rattle.fk_json.specs.Remainder.{IsTextOf};
+ghost use Rattle.fk_json.specs.Standing.{first_standing};
+
+use crate::JsonFault;
+use crate::mode::Bracket;
+use crate::standing::{Found, Standing, Step, first_standing, is_whole, read};
+
+/// How far a text was read, and where the scan stands.
+#[derive(Clone, Copy)]
+pub(crate) struct Cursor {
+    pub at: usize,
+    pub standing: Standing,
+}
+
+/// What comes next in a text.
+#[derive(Clone, Copy)]
+pub(crate) enum Next {
+    /// An item of the outermost brackets, and how far the text was read to find it.
+    Found(Found, Cursor),
+    /// The text has no further item, and is whole.
+    End,
+}
+
+/// The start of any text.
+pub(crate) fn first_cursor() -> Cursor
+    ensures at { result.at ≡ 0 }
+    ensures standing { result.standing ≡ first_standing }
+{
+    Cursor {
+        at: 0,
+        standing: first_standing(),
+    }
+}
+
+/// Reads on to the end of the next item.
+pub(crate) fn next_found(outer: Bracket, text: &[u8], cursor: Cursor) -> Result<Next, JsonFault>
+    ensures ok { IfOk result (λ next. LeadsTo outer text.now cursor next) }
+    ensures farther { IfOk result (λ next. GoesFarther (length text.now) cursor next) }
+    ensures fault { IfErr result (λ fault. (found : List (Item outer))
+        → IsReadTo outer text.now cursor.at found cursor.standing
+        → Faults (IsTextOf outer) text.now fault) }
+{
+    let mut at = cursor.at;
+    let mut standing = cursor.standing;
+    'bytes: while at < text.len() {
+        match read(outer, standing, at, text[at]) {
+            Step::Goes(next, None) => {
+                standing = next;
+                at += 1;
+            }
+            Step::Goes(next, Some(found)) => {
+                return Ok(Next::Found(found, behind(at, next)));
+            }
+            Step::TooDeep => return Err(JsonFault::TooDeep(at)),
+            Step::Stops => return Err(JsonFault::Syntax(at)),
+        }
+    }
+    if is_whole(standing) {
+        Ok(Next::End)
+    } else {
+        Err(JsonFault::Syntax(text.len()))
+    }
+}
+
+// The cursor behind the byte at a place.
+fn behind(at: usize, standing: Standing) -> Cursor
+    requires { at < 2 ^ 64 - 1 }
+    ensures at { result.at ≡ at + 1 }
+    ensures standing { result.standing ≡ standing }
+{
+    Cursor {
+        at: at + 1,
+        standing,
+    }
+}

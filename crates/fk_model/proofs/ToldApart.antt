@@ -1,0 +1,67 @@
+-- No reply that a turn says has the bytes of an answer of a turn that couldn't be made.
+use Rattle.std.proofs.Common.{◌≡◌, ◌≢◌, ℕ, zero, suc, ◌<◌, List, length, codes, Bool, true, false, Option, None, Some, arith, sym, ap, ◌∙◌, if◌then◌else◌}
+use Rattle.std.specs.Prelude.{Contains, slice_index, slice_index_or}
+use Rattle.std.specs.Option.{option_map_or}
+use Rattle.fk_frame.specs.declared.reply.Reply.{Reply}
+use Rattle.fk_frame.specs.declared.reply.Reply.TheVariants.{Status, Bulk, Nil}
+use Rattle.fk_frame.specs.Replies.{reply_bytes}
+use Rattle.fk_model.specs.declared.row.Row.{Row}
+use Rattle.fk_model.specs.declared.ask.Ask.{Ask}
+use Rattle.fk_model.specs.declared.ask.Ask.TheVariants.{Push, PushBatch, Fetch, Ack}
+use Rattle.fk_job.specs.RowText.{row_text}
+use Rattle.fk_model.specs.Rows.{row_of}
+use Rattle.fk_model.specs.State.{State}
+use Rattle.fk_model.specs.Requests.{fetched}
+use Rattle.fk_model.specs.Said.{not_served, only_said, handed_out, effect_of, is_served}
+use Rattle.fk_model.specs.Turns.{turn}
+use Rattle.fk_model.specs.Answers.{turn_texts, IsToldApart}
+
+-- the first byte tells: each of those answers begins with `-`
+begins_otherwise : (r : List ℕ) (k : ℕ) → slice_index r 0 ≢ 45
+    → k < 3 → slice_index_or turn_texts k r ≡ r → ⊥
+begins_otherwise r zero other lt e = other (sym (ap (λ text. slice_index text 0) e))
+begins_otherwise r (suc zero) other lt e = other (sym (ap (λ text. slice_index text 0) e))
+begins_otherwise r (suc (suc zero)) other lt e = other (sym (ap (λ text. slice_index text 0) e))
+begins_otherwise r (suc (suc (suc k))) other lt e = omega (arith, lt)
+
+-- the byte behind `-ERR ` tells
+is_not_served : (k : ℕ) → k < 3
+    → slice_index_or turn_texts k (reply_bytes not_served) ≡ reply_bytes not_served → ⊥
+is_not_served zero lt e = let at : 79 ≡ 78 = ap (λ text. slice_index text 5) e in omega (arith, at)
+is_not_served (suc zero) lt e = let at : 70 ≡ 78 = ap (λ text. slice_index text 5) e in omega (arith, at)
+is_not_served (suc (suc zero)) lt e = let at : 68 ≡ 78 = ap (λ text. slice_index text 5) e in omega (arith, at)
+is_not_served (suc (suc (suc k))) lt e = omega (arith, lt)
+
+a_status : (text : List ℕ) → IsToldApart (Status text)
+a_status text c = begins_otherwise _ c.0 (λ e. let same : 43 ≡ 45 = e in omega (arith, same)) c.1 c.2
+
+a_bulk : (text : List ℕ) → IsToldApart (Bulk text)
+a_bulk text c = begins_otherwise _ c.0 (λ e. let same : 36 ≡ 45 = e in omega (arith, same)) c.1 c.2
+
+no_value : IsToldApart Nil
+no_value c = begins_otherwise _ c.0 (λ e. let same : 36 ≡ 45 = e in omega (arith, same)) c.1 c.2
+
+what_is_not_served : IsToldApart not_served
+what_is_not_served c = is_not_served c.0 c.1 c.2
+
+-- a fetch says the text of a row, or Nil
+a_fetch : (s : State) (moment : ℕ) (wid : List ℕ) (row : Option (ℕ × Row))
+    → IsToldApart (option_map_or (handed_out s moment wid) row (only_said s Nil)).reply
+a_fetch s moment wid None = no_value
+a_fetch s moment wid (Some filed) = a_bulk (row_text (row_of filed).job (row_of filed).stamp)
+
+an_effect : (s : State) (ask : Ask) (moment word : ℕ) → IsToldApart (effect_of s ask moment word).reply
+unfolding effect_of
+an_effect s (Push job) moment word = a_status (codes "OK")
+an_effect s (PushBatch jobs told) moment word = a_bulk told
+an_effect s (Fetch wid queues) moment word = a_fetch s moment wid (fetched s wid queues)
+an_effect s (Ack jid) moment word = a_status (codes "OK")
+an_effect s other moment word = what_is_not_served
+
+a_choice : (s : State) (ask : Ask) (moment word : ℕ) (served : Bool)
+    → IsToldApart (if served then effect_of s ask moment word else only_said s not_served).reply
+a_choice s ask moment word true = an_effect s ask moment word
+a_choice s ask moment word false = what_is_not_served
+
+pub a_turn : (s : State) (ask : Ask) (moment word : ℕ) → IsToldApart (turn s ask moment word).reply
+a_turn s ask moment word = a_choice s ask moment word (is_served moment ask)

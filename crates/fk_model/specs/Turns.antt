@@ -1,0 +1,71 @@
+-- One turn: the state is brought up to date, and then the request acts.
+use Rattle.std.specs.Prelude.{ℕ, if◌then◌else◌, List, [], ◌∷◌, ◌++◌, map, option_to_list}
+use Rattle.std.specs.List.{enumerate_from}
+use Rattle.fk_job.specs.declared.job.Job.{Job}
+use Rattle.fk_model.specs.declared.row.Row.{Row}
+use Rattle.fk_model.specs.declared.ask.Ask.{Ask}
+use Rattle.fk_model.specs.declared.ask.Ask.TheVariants.{Push, PushBatch, Fetch, Ack}
+use Rattle.fk_model.specs.declared.move_.Move.{Move}
+use Rattle.fk_model.specs.declared.move_.Move.TheVariants.{Add, Put, Drop, Totals}
+use Rattle.fk_model.specs.Rows.{ticket_of, row_of}
+use Rattle.fk_model.specs.State.{Kept, State}
+use Rattle.fk_model.specs.Orders.{leased}
+use Rattle.fk_model.specs.Requests.{pushed_row, reserved_row, fetched}
+use Rattle.fk_model.specs.Said.{Effect, is_served, said}
+
+-- the state brought up to the moment of a turn: nothing falls due by time alone yet
+abbrev pub up_to_date : State → ℕ → ℕ → State
+up_to_date state moment word = state
+
+-- what a turn does, by its moment and its word
+abbrev pub turn : State → Ask → ℕ → ℕ → Effect
+turn state ask moment word = said (up_to_date state moment word) ask moment word
+
+-- ---- the moves of a turn
+
+-- the moves by which the state is brought up to date
+abbrev pub moves_due : State → ℕ → ℕ → List Move
+moves_due state moment word = []
+
+-- a new row for each job, under the tickets from a number on
+abbrev pub moves_of_push : ℕ → ℕ → List Job → List Move
+moves_of_push moment next jobs =
+    map (λ ticketed. Add ticketed.0 (pushed_row moment ticketed.0 ticketed.1))
+    (enumerate_from next jobs)
+
+-- a row gets a new place
+abbrev pub move_to : ℕ → Row → Move
+move_to ticket row = Put ticket row.stamp.enqueued row.stamp.failure row.place
+
+-- what a request changes, row by row
+unfoldable pub moves_of : State → Ask → ℕ → ℕ → List Move
+moves_of state (Push job) moment word = moves_of_push moment state.kept.next (job ∷ [])
+moves_of state (PushBatch jobs told) moment word = moves_of_push moment state.kept.next jobs
+moves_of state (Fetch wid queues) moment word =
+    map (λ filed. move_to (ticket_of filed) (reserved_row moment wid (row_of filed)))
+    (option_to_list (fetched state wid queues))
+moves_of state (Ack jid) moment word =
+    map (λ filed. Drop (ticket_of filed)) (option_to_list (leased state.kept jid))
+moves_of state other moment word = []
+
+-- the moves of what is said: a request that isn't served yet has none
+abbrev pub moves_said : State → Ask → ℕ → ℕ → List Move
+moves_said state ask moment word =
+    if is_served moment ask then moves_of state ask moment word else []
+
+-- the numbers of a kept state
+abbrev pub totals : Kept → Move
+totals kept = Totals kept.next kept.processed kept.failures
+
+-- moves that change a row, and behind them the numbers at the end
+abbrev pub closed : List Move → Kept → List Move
+closed [] kept = []
+closed (move ∷ moves) kept = (move ∷ moves) ++ totals kept ∷ []
+
+-- the moves of a turn: one for each row that being brought up to date changes, then one for each that
+-- the request changes, and the numbers last. There is none where the kept state stays
+abbrev pub moves_of_turn : State → Ask → ℕ → ℕ → List Move
+moves_of_turn state ask moment word =
+    closed
+    (moves_due state moment word ++ moves_said (up_to_date state moment word) ask moment word)
+    (turn state ask moment word).state.kept

@@ -1,0 +1,38 @@
+//! Laws over the definitions of states, turns and histories. Each is the contract of a function that
+//! does nothing.
+
+ghost use Rattle.std.specs.Prelude.{◌≡◌, ◌++◌, ◌↔◌, AllPairs, Bool, List, count_by, false, ℕ};
+ghost use Rattle.fk_model.specs.declared.ask.Ask.{Ask as AnAsk};
+ghost use Rattle.fk_model.specs.declared.entry.Entry.{Entry as AnEntry};
+ghost use Rattle.fk_model.specs.State.{State};
+ghost use Rattle.fk_model.specs.Orders.{comes_before, in_order};
+ghost use Rattle.fk_model.specs.Turns.{turn};
+ghost use Rattle.fk_model.specs.Answers.{IsToldApart};
+ghost use Rattle.fk_model.specs.History.{after, faults_after, IsLegalFrom};
+
+/// Sorting pairs is a sort: no pair comes before one that stands ahead of it, and each is there as
+/// often as it was.
+pub fn pairs_are_sorted()
+    ensures order { (pairs : List (ℕ × ℕ))
+        → AllPairs (λ one other. comes_before other one ≡ false) (in_order pairs) }
+    ensures same { (test : ℕ × ℕ → Bool) (pairs : List (ℕ × ℕ))
+        → count_by test (in_order pairs) ≡ count_by test pairs }
+{}
+
+/// A history that goes on: the state after the whole is that after its second part, from the state
+/// after its first, and so is the count of faults.
+pub fn a_history_goes_on()
+    ensures state { (s : State) (front back : List AnEntry)
+        → after s (front ++ back) ≡ after (after s front) back }
+    ensures faults { (n : ℕ) (front back : List AnEntry)
+        → faults_after n (front ++ back) ≡ faults_after (faults_after n front) back }
+    ensures legal { (s : State) (n : ℕ) (front back : List AnEntry)
+        → (IsLegalFrom s n (front ++ back)
+        ↔ (IsLegalFrom s n front × IsLegalFrom (after s front) (faults_after n front) back)) }
+{}
+
+/// What a turn says is never taken for the answer of a turn that couldn't be made.
+pub fn a_reply_is_told_apart()
+    ensures { (s : State) (ask : AnAsk) (moment word : ℕ)
+        → IsToldApart (turn s ask moment word).reply }
+{}

@@ -1,0 +1,10 @@
+pub mod Sorting
+pub mod Left
+pub mod Pushing
+pub mod Finding
+pub mod Later
+pub mod Spelled
+pub mod Moving
+pub mod Closing
+pub mod Adding
+pub mod Allowing

@@ -1,0 +1,10 @@
+use Rattle.std.proofs.Common.{◌≡◌, ◌++◌, filter, nat_lt, take}
+use Rattle.fk_model.specs.Rows.{ticket_of}
+use Rattle.fk_plain.proofs.rows.PlainRows.copy_behind.Given as goal
+
+-- those so far
+abbrev pub invariant-loop-filed : goal.invariant-loop-filed
+invariant-loop-filed l =
+    l.out
+    ≡ l.initial.out
+    ++ filter (λ filed. nat_lt l.ticket (ticket_of filed)) (take l.filed-index l.filed-items)
