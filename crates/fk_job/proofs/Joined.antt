@@ -4,7 +4,7 @@ use Rattle.std.proofs.lemmas.List.{append-nil, append_assoc, drop_more, length-a
 use Rattle.std.specs.List.{flat_map, join_with_byte, list_any}
 use Rattle.fk_json.specs.declared.member.Member.{Member}
 use Rattle.fk_job.specs.Members.{body_of, counting_members, is_handed_on, is_named, sent_member, sent_value}
-use Rattle.fk_job.specs.Values.{counting_flags, joined, with_counting}
+use Rattle.fk_job.specs.Pieces.{counting_flags, joined, with_counting}
 use Rattle.fk_job.proofs.Strings.{join-cons}
 
 -- a text with the pieces behind it

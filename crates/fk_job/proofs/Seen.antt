@@ -10,7 +10,7 @@ use Rattle.std.specs.List.{list_any}
 use Rattle.std.specs.Str.{bytes_eq}
 use Rattle.fk_json.specs.declared.member.Member.{Member}
 use Rattle.fk_job.specs.Members.{is_named}
-use Rattle.fk_job.specs.Values.{counting_flags}
+use Rattle.fk_job.specs.Pieces.{counting_flags}
 
 -- the order of names, which is that of their bytes
 abbrev pub name_order : Bor (List ℕ) → Bor (List ℕ) → Ordering

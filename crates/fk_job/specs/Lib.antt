@@ -4,5 +4,6 @@ pub mod Faults
 pub mod Members
 pub mod Fields
 pub mod Values
+pub mod Pieces
 pub mod JobText
 pub mod Again

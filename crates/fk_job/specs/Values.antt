@@ -1,13 +1,12 @@
 -- What the value of a job's member says, and when none is said.
-use Rattle.std.specs.Prelude.{◌≡◌, ◌⊎◌, ℕ, ◌<◌, ◌≤ℤ◌, ◌++◌, ℤ, pos, not, ◌&&◌, if◌then◌else◌, Bool, List, [], ◌∷◌, Option, length, codes}
-use Rattle.std.specs.List.{AllByRecursion, list_any}
+use Rattle.std.specs.Prelude.{◌≡◌, ◌⊎◌, ℕ, ◌<◌, ◌≤ℤ◌, ℤ, pos, List, Option, length, codes}
+use Rattle.std.specs.List.{AllByRecursion}
 use Rattle.fk_json.specs.String.{IsString}
 use Rattle.fk_json.specs.Json.{IsValue}
 use Rattle.fk_json.specs.Members.{IsMemberIn, inner_levels}
 use Rattle.fk_json.specs.declared.member.Member.{Member}
 use Rattle.fk_job.specs.declared.fault.JobFault.{JobFault}
 use Rattle.fk_job.specs.declared.fault.JobFault.TheVariants.{NoMemory}
-use Rattle.fk_job.specs.Members.{is_handed_on, is_named, sent_member}
 use Rattle.fk_job.specs.Fields.{HasString, IsInteger64, IsMomentOf, IsQueueNamed, most_reserve, reserve_seconds, retries}
 
 -- the members stand in the text
@@ -41,19 +40,3 @@ IsAtIn value at = (decoded : List ℕ) × IsString value decoded × IsMomentOf d
 -- there was no memory, or nothing is what was looked for and the fault says so
 abbrev pub Fails : {X : Type 0} → JobFault → (X → Type 0) → JobFault → Type 0
 Fails {X} bad IsIt fault = (fault ≡ NoMemory) ⊎ ((fault ≡ bad) × ((x : X) → ¬ IsIt x))
-
--- whether each member counts: no later one has its name
-abbrev pub counting_flags : List Member → List Bool
-counting_flags [] = []
-counting_flags (member ∷ members) =
-    not (list_any (is_named member.name) members) ∷ counting_flags members
-
--- a piece behind a text, with a comma between them where the text has a byte
-abbrev pub joined : List ℕ → List ℕ → List ℕ
-joined [] piece = piece
-joined (first ∷ text) piece = first ∷ text ++ codes "," ++ piece
-
--- the text with a member behind it, where it counts and is handed on
-abbrev pub with_counting : List ℕ → Bool → List ℕ → Member → List ℕ
-with_counting text counts body member =
-    if counts && is_handed_on text member then joined body (sent_member text member) else body

@@ -2,7 +2,8 @@
 ghost use Rattle.std.specs.Prelude.{◌≡◌, IfOk, OnOk};
 ghost use Rattle.fk_json.specs.Members.{IsMemberIn, inner_levels};
 ghost use Rattle.fk_job.specs.Members.{body_of, is_handed_on, sent_member};
-ghost use Rattle.fk_job.specs.Values.{ArePlaced, joined, with_counting};
+ghost use Rattle.fk_job.specs.Pieces.{joined, with_counting};
+ghost use Rattle.fk_job.specs.Values.{ArePlaced};
 
 use crate::counting::counting_flags;
 use crate::named::sent_value;
@@ -32,8 +33,7 @@ fn push_counting(
     counts: bool,
 ) -> Result<(), AllocError>
     requires { IsMemberIn inner_levels text.now member.now }
-    ensures { OnOk result (body.new
-        ≡ with_counting text.now counts body.old member.now) }
+    ensures { OnOk result (body.new ≡ with_counting text.now counts body.old member.now) }
 {
     if counts && is_handed_on(text, member) {
         push_sent(body, text, member)

@@ -1,6 +1,6 @@
 // Which members count: those that no later member of their name follows.
 ghost use Rattle.std.specs.Prelude.{◌≡◌, IfOk};
-ghost use Rattle.fk_job.specs.Values.{counting_flags};
+ghost use Rattle.fk_job.specs.Pieces.{counting_flags};
 
 use fk_json::Member;
 use std::alloc::{AllocError, Global};

@@ -7,13 +7,19 @@ ghost use Rattle.fk_job.specs.declared.fault.JobFault.TheVariants.{BadAt, BadQue
 
 use crate::JobFault;
 use crate::named::{given_value, string_of, value_of};
-use crate::values::{at_in, is_array, queue_in, reserve_in, retry_in};
+use crate::values::{
+    DEFAULT_QUEUE, DEFAULT_RESERVE, at_in, is_array, queue_in, reserve_in, retry_in,
+};
 use fk_json::{Member, Text};
 use std::alloc::Global;
+
+/// How often a job is tried again where it doesn't say.
+const DEFAULT_RETRY: i64 = 25;
 
 /// The fewest bytes of a decoded jid.
 const LEAST_JID_LENGTH: usize = 8;
 
+// A jid that is too short is a fault of its own.
 pub(crate) fn jid_of(alloc: Global, text: &[u8], members: &[Member]) -> Result<Text, JobFault>
     requires { ArePlaced text.now members.now }
     ensures ok { IfOk result (λ jid. HasString text.now members.now (codes "jid") jid
@@ -61,7 +67,7 @@ pub(crate) fn queue_of(alloc: Global, text: &[u8], members: &[Member]) -> Result
 {
     match given_value(text, members, b"queue") {
         Some(value) => queue_in(alloc, value),
-        None => Ok(Text::fixed(alloc, b"default")),
+        None => Ok(Text::fixed(alloc, DEFAULT_QUEUE)),
     }
 }
 
@@ -72,7 +78,7 @@ pub(crate) fn reserve_of(text: &[u8], members: &[Member]) -> Option<u64>
 {
     match given_value(text, members, b"reserve_for") {
         Some(value) => reserve_in(value),
-        None => Some(1800),
+        None => Some(DEFAULT_RESERVE),
     }
 }
 
@@ -83,7 +89,7 @@ pub(crate) fn retry_of(text: &[u8], members: &[Member]) -> Option<i64>
 {
     match given_value(text, members, b"retry") {
         Some(value) => retry_in(value),
-        None => Some(25),
+        None => Some(DEFAULT_RETRY),
     }
 }
 

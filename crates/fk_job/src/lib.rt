@@ -6,6 +6,8 @@ mod body;
 mod counting;
 mod failure;
 mod fault;
+#[cfg(test)]
+mod fault_tests;
 mod fields;
 mod job;
 mod jobs;

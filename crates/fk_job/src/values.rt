@@ -10,6 +10,17 @@ use fk_json::{Text, integer_value, string_value};
 use fk_time::read_moment;
 use std::alloc::Global;
 
+/// The queue of a job that names none.
+pub(crate) const DEFAULT_QUEUE: &[u8] = b"default";
+
+/// The seconds of a reservation that isn't said or is too short.
+pub(crate) const DEFAULT_RESERVE: u64 = 1800;
+
+/// The fewest and the most seconds of a reservation.
+const LEAST_RESERVE: i64 = 60;
+
+const MOST_RESERVE: i64 = 86_400;
+
 // A value that begins with a bracket is an array.
 pub(crate) fn is_array(value: &[u8]) -> bool
     requires { IsSomeValue value.now }
@@ -29,7 +40,7 @@ pub(crate) fn queue_in(alloc: Global, value: &[u8]) -> Result<Text, JobFault>
         return Err(JobFault::BadQueue);
     };
     if name.is_empty() {
-        return Ok(Text::fixed(alloc, b"default"));
+        return Ok(Text::fixed(alloc, DEFAULT_QUEUE));
     }
     if is_queue_name(name.bytes()) {
         Ok(name)
@@ -55,7 +66,7 @@ pub(crate) fn reserve_in(value: &[u8]) -> Option<u64>
     ensures none { IfNone result ((seconds : ℕ) → ¬ IsReserveIn value.now seconds) }
 {
     let number = integer_value(value)?;
-    if number > 86_400 {
+    if number > MOST_RESERVE {
         return None;
     }
     Some(reserve_seconds(number))
@@ -64,7 +75,11 @@ pub(crate) fn reserve_in(value: &[u8]) -> Option<u64>
 fn reserve_seconds(number: i64) -> u64
     ensures { result ≡ reserve_seconds number }
 {
-    if number < 60 { 1800 } else { number as u64 }
+    if number < LEAST_RESERVE {
+        DEFAULT_RESERVE
+    } else {
+        number as u64
+    }
 }
 
 pub(crate) fn retry_in(value: &[u8]) -> Option<i64>
