@@ -2,7 +2,7 @@
 use Rattle.std.proofs.Common.{◌≡◌, inl, inr, ℕ, suc, ◌+◌, List, [], ◌∷◌, ◌++◌, length, refl, arith}
 use Rattle.fk_json.specs.Json.{IsSpace, IsValue}
 use Rattle.fk_json.specs.String.{IsString}
-use Rattle.fk_json.specs.Tokens.{TokenLeft}
+use Rattle.fk_json.specs.TokenRests.{TokenLeft}
 use Rattle.fk_json.specs.Moves.{innermost, opening}
 use Rattle.fk_json.specs.Left.{AfterLeft, ByteThen, ColonLeft, FirstLeft, Fits, Frame, IsNothing, Item, ItemsLeft, ModeLeft, NameLeft, Pending, Spaced, TailLeft, ValueLeft, WithinLeft, ended, outermost}
 use Rattle.fk_json.specs.Remainder.{NameRest, frame_in, no_item, pending_in}

@@ -4,7 +4,8 @@ use Rattle.std.proofs.Common.{◌≡◌, ◌≢◌, ◌⊎◌, inl, inr, ℕ, Bo
 use Rattle.std.proofs.lemmas.Bool.{cases_eq}
 use Rattle.std.proofs.lemmas.List.{append_assoc, append-nil}
 use Rattle.fk_json.specs.String.{IsString}
-use Rattle.fk_json.specs.Tokens.{StringLeft, string_ends, string_step}
+use Rattle.fk_json.specs.Tokens.{string_ends, string_step}
+use Rattle.fk_json.specs.TokenRests.{StringLeft}
 use Rattle.fk_json.specs.Json.{FailsAt, IsArrayText, IsObjectText, IsTooDeepAt, most_levels}
 use Rattle.fk_json.specs.Moves.{most_inner}
 use Rattle.fk_json.specs.Left.{Item}

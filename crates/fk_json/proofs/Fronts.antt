@@ -2,7 +2,7 @@
 use Rattle.std.proofs.Common.{◌≡◌, ◌≢◌, inl, inr, ◌↔◌, ℕ, ◌+◌, Bool, true, false, List, [], ◌∷◌, ◌++◌, length, refl, sym, ap, subst, ◌∙◌, arith}
 use Rattle.std.proofs.lemmas.Bool.{false≢true}
 use Rattle.fk_json.specs.Json.{is_space}
-use Rattle.fk_json.specs.Tokens.{follows}
+use Rattle.fk_json.specs.TokenRests.{follows}
 use Rattle.fk_json.specs.Left.{AfterLeft, ByteThen, ColonLeft, Frame, ItemsLeft, NameLeft, TailLeft, ValueLeft, WithinLeft}
 use Rattle.fk_json.specs.declared.member.Member.{Member}
 use Rattle.fk_json.proofs.Parts.{head_of, tail_of}

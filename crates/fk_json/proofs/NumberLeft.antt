@@ -7,7 +7,8 @@ use Rattle.std.proofs.lemmas.List.Elements.{All-cons, All-head, All-nil, All-tai
 use Rattle.fk_json.proofs.Parts.{head_of, tail_of}
 use Rattle.fk_json.specs.Json.{IsLiteral}
 use Rattle.fk_json.specs.Number.{AreDigits, IsExponent, IsFraction, IsMinus, IsNumber, IsSign, IsWhole}
-use Rattle.fk_json.specs.Tokens.{NumberLeft, behind_whole, follows, letters_end, letters_step, letters_text, number_ends, number_first, number_step, raised_by, when}
+use Rattle.fk_json.specs.Tokens.{behind_whole, letters_end, letters_step, number_ends, number_first, number_step, raised_by, when}
+use Rattle.fk_json.specs.TokenRests.{NumberLeft, follows, letters_text}
 use Rattle.fk_json.specs.declared.number_mode.NumberMode.{NumberMode}
 use Rattle.fk_json.specs.declared.number_mode.NumberMode.TheVariants.{Minus, Zero, Whole, Point, Fraction, Letter, Sign, Exponent}
 use Rattle.fk_json.specs.declared.token.Letters.{Letters}

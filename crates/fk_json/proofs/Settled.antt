@@ -5,7 +5,8 @@ use Rattle.std.proofs.lemmas.Bool.{and_parts, cases_eq, false≢true}
 use Rattle.std.proofs.lemmas.List.{append_assoc, append_cancel_left}
 use Rattle.fk_json.specs.String.{IsPart, IsString, Part, meaning, part_text}
 use Rattle.fk_json.specs.Json.{AreItems, AreJoined, IsElement, IsMember, IsSpace, IsValue, is_space, value_span}
-use Rattle.fk_json.specs.Tokens.{TokenLeft, follows, token_ends, token_first, token_step}
+use Rattle.fk_json.specs.Tokens.{token_ends, token_first, token_step}
+use Rattle.fk_json.specs.TokenRests.{TokenLeft, follows}
 use Rattle.fk_json.specs.declared.member.Member.{Member}
 use Rattle.fk_json.specs.declared.span.Span.{Span}
 use Rattle.fk_json.specs.declared.token.Token.{Token}

@@ -5,7 +5,8 @@ use Rattle.std.proofs.Math.Seq.{drop-append_seam}
 use Rattle.std.proofs.lemmas.Bool.{leb-true, leb-false}
 use Rattle.std.proofs.lemmas.List.{append_assoc, drop-append-le, length-append, take-append-le}
 use Rattle.fk_json.specs.String.{IsString}
-use Rattle.fk_json.specs.Tokens.{StringLeft, string_step}
+use Rattle.fk_json.specs.Tokens.{string_step}
+use Rattle.fk_json.specs.TokenRests.{StringLeft}
 use Rattle.fk_json.specs.Moves.{innermost, most_inner}
 use Rattle.fk_json.specs.Left.{Fits, Item, Pending}
 use Rattle.fk_json.specs.Standing.{closed_in, moved, placed}

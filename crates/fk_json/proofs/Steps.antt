@@ -3,7 +3,8 @@ use Rattle.std.proofs.Common.{◌≡◌, ◌≢◌, ◌⊎◌, inl, inr, ◌↔�
 use Rattle.std.proofs.lemmas.Bool.{eqb-false, eqb-true, false≢true}
 use Rattle.fk_json.specs.Json.{IsValue, is_space}
 use Rattle.fk_json.specs.String.{IsString}
-use Rattle.fk_json.specs.Tokens.{StringLeft, TokenLeft, string_ends, string_step, token_ends, token_first, token_step}
+use Rattle.fk_json.specs.Tokens.{string_ends, string_step, token_ends, token_first, token_step}
+use Rattle.fk_json.specs.TokenRests.{StringLeft, TokenLeft}
 use Rattle.fk_json.specs.Moves.{behind_item, begun, closing, core_move, item_at, move_of, name_led, opening, value_at, value_led}
 use Rattle.fk_json.specs.Left.{AfterLeft, ByteThen, ColonLeft, FirstLeft, Fits, Frame, IsItem, Item, ItemsLeft, ModeLeft, NameLeft, Pending, TailLeft, ValueLeft, WithinLeft, ended}
 use Rattle.fk_json.specs.declared.member.Member.{Member}

@@ -8,7 +8,8 @@ use Rattle.std.proofs.lemmas.List.{length-append}
 use Rattle.std.proofs.lemmas.Option.{cond_some, none-some}
 use Rattle.std.proofs.lemmas.Str.{IsUtf8-nil}
 use Rattle.fk_json.specs.String.{IsHexadecimal, IsPart, IsString, Part, byte, letter, unit, is_letter, meaning, part_text, quote}
-use Rattle.fk_json.specs.Tokens.{ByteThen, DigitThen, EscapeLeft, InsideLeft, StringLeft, behind_backslash, behind_byte, character_first, continued, digit_then, is_hexadecimal, string_ends, string_step}
+use Rattle.fk_json.specs.Tokens.{behind_backslash, behind_byte, character_first, continued, digit_then, is_hexadecimal, string_ends, string_step}
+use Rattle.fk_json.specs.TokenRests.{ByteThen, DigitThen, EscapeLeft, InsideLeft, StringLeft}
 use Rattle.fk_json.specs.declared.string_mode.StringMode.{StringMode}
 use Rattle.fk_json.specs.declared.string_mode.StringMode.TheVariants.{Inside, Escape, Four, Three, Two, One, LastByte, TwoBytes, ThreeBytes, NotOverlongOfThree, NoSurrogate, NotOverlongOfFour, NotPastTheLast, Closed}
 use Rattle.fk_json.proofs.Characters.{BeginsWith, CharacterLeft, character_goes, character_stops, first_begins, first_high, if_some, if_none}

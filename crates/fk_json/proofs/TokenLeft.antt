@@ -2,7 +2,8 @@
 use Rattle.std.proofs.Common.{◌≡◌, ◌↔◌, ℕ, true, false, List, [], ◌∷◌, Option, None, Some, refl, sym, ap, subst, ◌∙◌}
 use Rattle.std.specs.Prelude.{option_map, unwrap_or}
 use Rattle.std.proofs.lemmas.Bool.{false≢true}
-use Rattle.fk_json.specs.Tokens.{TokenLeft, follows, letters_end, letters_step, letters_text, number_step, string_ends, string_step, token_ends, token_step}
+use Rattle.fk_json.specs.Tokens.{letters_end, letters_step, number_step, string_ends, string_step, token_ends, token_step}
+use Rattle.fk_json.specs.TokenRests.{TokenLeft, follows, letters_text}
 use Rattle.fk_json.specs.declared.string_mode.StringMode.{StringMode}
 use Rattle.fk_json.specs.declared.string_mode.StringMode.TheVariants.{Inside, Escape, Four, Three, Two, One, LastByte, TwoBytes, ThreeBytes, NotOverlongOfThree, NoSurrogate, NotOverlongOfFour, NotPastTheLast, Closed}
 use Rattle.fk_json.specs.declared.token.Letters.{Letters}

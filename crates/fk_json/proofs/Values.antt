@@ -6,7 +6,8 @@ use Rattle.fk_json.proofs.Parts.{head_of}
 use Rattle.fk_json.proofs.StringLeft.{string_begins, string_empty, string_none}
 use Rattle.fk_json.specs.Json.{IsArray, IsLiteral, IsObject, IsScalar, IsValue, is_space}
 use Rattle.fk_json.specs.Number.{IsNumber}
-use Rattle.fk_json.specs.Tokens.{StringLeft, TokenLeft, letters_text, number_first, token_first}
+use Rattle.fk_json.specs.Tokens.{number_first, token_first}
+use Rattle.fk_json.specs.TokenRests.{StringLeft, TokenLeft, letters_text}
 use Rattle.fk_json.specs.declared.member.Member.{Member}
 use Rattle.fk_json.specs.declared.number_mode.NumberMode.{NumberMode}
 use Rattle.fk_json.specs.declared.span.Span.{Span}

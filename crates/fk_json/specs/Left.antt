@@ -2,7 +2,7 @@
 -- closing bracket, and what stands behind it.
 use Rattle.std.specs.Prelude.{◌≡◌, ◌⊎◌, ℕ, ◌+◌, List, [], ◌∷◌, ◌++◌, length}
 use Rattle.fk_json.specs.Json.{AreJoined, IsElement, IsMember, IsSpace, IsValue}
-use Rattle.fk_json.specs.Tokens.{TokenLeft}
+use Rattle.fk_json.specs.TokenRests.{TokenLeft}
 use Rattle.fk_json.specs.Moves.{closing}
 use Rattle.fk_json.specs.declared.member.Member.{Member}
 use Rattle.fk_json.specs.declared.span.Span.{Span}

@@ -2,6 +2,7 @@ pub mod Text
 pub mod String
 pub mod Number
 pub mod Tokens
+pub mod TokenRests
 pub mod Json
 pub mod Members
 pub mod Moves

@@ -1,6 +1,6 @@
 -- How far a text was read, the items found in it, and what is known there.
 use Rattle.std.specs.Prelude.{◌≡◌, ◌↔◌, ℕ, suc, ◌≤◌, List, [], ◌∷◌, ◌++◌, length, take, drop}
-use Rattle.fk_json.specs.Tokens.{StringLeft}
+use Rattle.fk_json.specs.TokenRests.{StringLeft}
 use Rattle.fk_json.specs.Moves.{innermost, most_inner}
 use Rattle.fk_json.specs.Left.{Fits, Item}
 use Rattle.fk_json.specs.Remainder.{IsKnown, IsTextOf, LevelsLeft, NameRest}

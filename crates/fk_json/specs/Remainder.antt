@@ -2,7 +2,7 @@
 use Rattle.std.specs.Prelude.{◌≡◌, ℕ, suc, ◌+◌, ◌≤◌, List, [], ◌∷◌, ◌++◌, length, take, drop, Option, None, Some}
 use Rattle.fk_json.specs.Json.{IsArrayText, IsObjectText, IsSpace, IsValue}
 use Rattle.fk_json.specs.String.{IsString}
-use Rattle.fk_json.specs.Tokens.{StringLeft}
+use Rattle.fk_json.specs.TokenRests.{StringLeft}
 use Rattle.fk_json.specs.Moves.{innermost, opening}
 use Rattle.fk_json.specs.Left.{ByteThen, FirstLeft, Frame, Item, ModeLeft, Pending, Spaced, ended, nested, outermost}
 use Rattle.fk_json.specs.declared.mode.Bracket.{Bracket}
