@@ -1,5 +1,5 @@
 -- The answers of a turn as bytes.
-use Rattle.std.specs.Prelude.{◌≡◌, ℕ, List, [], ◌∷◌, map, codes, Contains}
+use Rattle.std.specs.Prelude.{ℕ, List, [], ◌∷◌, map, codes, Contains}
 use Rattle.fk_frame.specs.declared.reply.Reply.{Reply}
 use Rattle.fk_frame.specs.declared.reply.Reply.TheVariants.{Error}
 use Rattle.fk_frame.specs.Replies.{reply_bytes}

@@ -48,7 +48,8 @@ abbrev pub ack_effect : State → List ℕ → Effect
 ack_effect state jid =
     kept_and_said state (option_map_or (finished state.kept) (leased state.kept jid) state.kept) ok
 
--- what a request does, by the moment and the word of its turn
+-- what a request does, by the moment and the word of its turn; the last line goes with the last
+-- request
 unfoldable pub effect_of : State → Ask → ℕ → ℕ → Effect
 effect_of state (Push job) moment word = kept_and_said state (pushed moment state.kept job) ok
 effect_of state (PushBatch jobs told) moment word =

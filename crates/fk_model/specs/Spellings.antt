@@ -1,6 +1,6 @@
 -- The bounds of what is written into a file: of a move with a spelling each number, text and list is
 -- within its bound.
-use Rattle.std.specs.Prelude.{◌≡◌, ℕ, ◌<◌, ◌≤◌, ℤ, pos, neg_ℤ, ◌≤ℤ◌, FitsSigned, List, length, Option, IfSome, All}
+use Rattle.std.specs.Prelude.{ℕ, ◌<◌, ◌≤◌, pos, neg_ℤ, ◌≤ℤ◌, FitsSigned, List, length, Option, IfSome, All}
 use Rattle.std.specs.Int.{w64}
 use Rattle.std.specs.List.{AllPass}
 use Rattle.fk_time.specs.Moments.{greatest}
@@ -32,7 +32,7 @@ pub record AreTexts (texts : List (List ℕ)) : Type 0 where
   pub each : All IsText texts
   pub short : length texts < text_limit
 
--- a queue of a job: a name of letters, digits, `.`, `_` and `-`
+-- a queue of a job: a name, not empty, of ASCII letters and digits, `.`, `_` and `-`
 pub record IsQueueName (name : List ℕ) : Type 0 where
   pub some : 0 < length name
   pub plain : AllPass is_queue_byte name

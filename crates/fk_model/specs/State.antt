@@ -3,15 +3,15 @@ use Rattle.std.specs.Prelude.{ℕ, List, []}
 use Rattle.fk_model.specs.declared.row.Row.{Row}
 use Rattle.fk_model.specs.declared.work_state.WorkState.{WorkState}
 
--- The kept state: the rows under their tickets, in order of ticket, the next ticket or rank, how
--- often a job was done or failed, and how often one failed.
+-- The kept state: the rows under their tickets, in order of ticket, the next ticket or rank, and,
+-- since the last flush, how often a job was done or failed, and how often one failed.
 pub record Kept : Type 0 where
   pub rows : List (ℕ × Row)
   pub next : ℕ
   pub processed : ℕ
   pub failures : ℕ
 
--- a worker: its name, its state, and the moment when it was last heard of
+-- a worker: its name, its state, and the moment of its last HELLO or BEAT
 pub record Worker : Type 0 where
   pub wid : List ℕ
   pub state : WorkState
@@ -27,9 +27,5 @@ abbrev pub empty : Kept
 empty = record { rows = []; next = 1; processed = 0; failures = 0 }
 
 -- what moves lead from, where they tell a whole kept state: no row, and each number 0
-abbrev pub blank : Kept
-blank = record { rows = []; next = 0; processed = 0; failures = 0 }
-
--- the state after a restart: what was kept, and no worker
-abbrev pub restarted : Kept → State
-restarted kept = record { kept = kept; workers = [] }
+abbrev pub untold : Kept
+untold = record { rows = []; next = 0; processed = 0; failures = 0 }

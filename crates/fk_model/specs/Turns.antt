@@ -37,21 +37,22 @@ moves_of_push moment next jobs =
 abbrev pub move_to : ℕ → Row → Move
 move_to ticket row = Put ticket row.stamp.enqueued row.stamp.failure row.place
 
--- what a request changes, row by row
-unfoldable pub moves_of : State → Ask → ℕ → ℕ → List Move
-moves_of state (Push job) moment word = moves_of_push moment state.kept.next (job ∷ [])
-moves_of state (PushBatch jobs told) moment word = moves_of_push moment state.kept.next jobs
-moves_of state (Fetch wid queues) moment word =
+-- what a request changes, row by row, in a state that was brought up to date from another kept
+-- state; the last line goes with the last request
+unfoldable pub moves_of : Kept → State → Ask → ℕ → ℕ → List Move
+moves_of before state (Push job) moment word = moves_of_push moment state.kept.next (job ∷ [])
+moves_of before state (PushBatch jobs told) moment word = moves_of_push moment state.kept.next jobs
+moves_of before state (Fetch wid queues) moment word =
     map (λ filed. move_to (ticket_of filed) (reserved_row moment wid (row_of filed)))
     (option_to_list (fetched state wid queues))
-moves_of state (Ack jid) moment word =
+moves_of before state (Ack jid) moment word =
     map (λ filed. Drop (ticket_of filed)) (option_to_list (leased state.kept jid))
-moves_of state other moment word = []
+moves_of before state other moment word = []
 
 -- the moves of what is said: a request that isn't served yet has none
-abbrev pub moves_said : State → Ask → ℕ → ℕ → List Move
-moves_said state ask moment word =
-    if is_served moment ask then moves_of state ask moment word else []
+abbrev pub moves_said : Kept → State → Ask → ℕ → ℕ → List Move
+moves_said before state ask moment word =
+    if is_served moment ask then moves_of before state ask moment word else []
 
 -- the numbers of a kept state
 abbrev pub totals : Kept → Move
@@ -67,5 +68,6 @@ closed (move ∷ moves) kept = (move ∷ moves) ++ totals kept ∷ []
 abbrev pub moves_of_turn : State → Ask → ℕ → ℕ → List Move
 moves_of_turn state ask moment word =
     closed
-    (moves_due state moment word ++ moves_said (up_to_date state moment word) ask moment word)
+    (moves_due state moment word
+    ++ moves_said state.kept (up_to_date state moment word) ask moment word)
     (turn state ask moment word).state.kept

@@ -44,9 +44,9 @@ pub enum Ask {
         wid: Text,
         state: WorkState,
     },
-    /// How many rows stand where.
+    /// How many rows stand where, the totals, and the moment.
     Info,
-    /// All rows are forgotten.
+    /// All rows are forgotten, and the totals are 0 again.
     Flush,
     /// Rows of a set are changed.
     Mutate {

@@ -3,7 +3,7 @@ ghost use Rattle.std.specs.Prelude.{◌≡◌};
 use fk_job::Jobs;
 use std::marker::Model;
 
-/// Jobs that are pushed at once. Beside their order nothing is seen of them: two batches of the
+/// Jobs that are pushed at once, seen as the jobs in order and nothing else: two batches of the
 /// same jobs are equal, whatever room their lists have.
 #[derive(Debug, Drop)]
 pub struct Batch {

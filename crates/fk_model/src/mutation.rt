@@ -3,7 +3,7 @@ use fk_json::{Text, Texts};
 /// What a MUTATE does to the rows that match.
 #[derive(Clone, Copy, Debug, PartialEq, Eq)]
 pub enum Cmd {
-    /// They are dead.
+    /// They are dead from now on. Those that are dead already stay as they are.
     Kill,
     /// They are forgotten.
     Discard,
@@ -20,7 +20,7 @@ pub enum Target {
     Scheduled,
     /// Those that failed and are tried again.
     Retries,
-    /// Those that failed for good.
+    /// Those that failed for good or were killed.
     Dead,
 }
 
@@ -32,6 +32,6 @@ pub struct Filter {
     /// The jids of which the job's is one. No row matches an empty list.
     pub jids: Option<Texts>,
     /// The pattern that the row's text matches, in which `*` stands for any bytes, `?` for one byte
-    /// and `\` before a byte for that byte.
+    /// and `\` before a byte for that byte, and at the end for itself.
     pub glob: Option<Text>,
 }

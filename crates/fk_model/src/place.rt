@@ -13,7 +13,7 @@ pub enum Place {
     Scheduled { at: u64 },
     /// It failed, and is put into its queue again at this moment.
     Retry { at: u64 },
-    /// It failed for good, and is forgotten at this moment.
+    /// It is dead: it failed for good or was killed, and is forgotten at this moment.
     Dead { until: u64 },
     /// A worker has it, which said that its name is `wid` (none for a producer), from one moment to
     /// another.

@@ -4,7 +4,7 @@ use crate::Place;
 use fk_job::{Job, Stamp};
 use std::alloc::AllocError;
 
-/// What the server keeps of one push: the job as it was sent, what the server added to it, and
+/// What the server keeps of one push: the job with its defaults, what the server added to it, and
 /// where it stands.
 #[derive(Debug, Drop)]
 pub struct Row {

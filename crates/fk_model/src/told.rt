@@ -9,7 +9,7 @@ pub struct Told {
     pub before: u128,
     /// The disks' faults after it.
     pub after: u128,
-    /// How its compaction went.
+    /// How the compaction of a Tick went; none is due for another ask.
     pub compaction: Compaction,
 }
 

@@ -60,7 +60,8 @@ fn moves_said(
     word: u64,
 ) -> Result<Moves, AllocError>
     requires { CanTurn state.now ask.now }
-    ensures { IfOk result (λ moves. moves.items ≡ moves_said state.now ask.now moment word) }
+    ensures { IfOk result (λ moves. moves.items
+        ≡ moves_said state.now.kept state.now ask.now moment word) }
 {
     let _ = word;
     if !is_served(moment, ask) {
@@ -117,7 +118,7 @@ fn moves_of_fetch(
     queues: &Texts,
 ) -> Result<Moves, AllocError>
     ensures { IfOk result (λ moves. moves.items
-        ≡ moves_of state.now (ask.Fetch wid.now queues.now) moment 0) }
+        ≡ moves_of state.now.kept state.now (ask.Fetch wid.now queues.now) moment 0) }
 {
     let mut moves = Moves::new(alloc);
     if state.is_held_back(wid) {
@@ -138,7 +139,8 @@ fn moves_of_fetch(
 /// The row that was done leaves, if there is one.
 #[tactic(auto, unfolding(fk_model::specs::Turns::moves_of))]
 fn moves_of_ack(alloc: Global, state: &PlainState, jid: &Text) -> Result<Moves, AllocError>
-    ensures { IfOk result (λ moves. moves.items ≡ moves_of state.now (ask.Ack jid.now) 0 0) }
+    ensures { IfOk result (λ moves. moves.items
+        ≡ moves_of state.now.kept state.now (ask.Ack jid.now) 0 0) }
 {
     let mut moves = Moves::new(alloc);
     if let Some(filed) = leased(state.kept(), jid) {
