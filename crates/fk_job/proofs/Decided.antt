@@ -103,15 +103,25 @@ made_job text members ((((((long, typed), arguments), queued), reserved), retrie
 
 -- and a job has it all
 job_has : (text : List ℕ) (members : List Member) (job : Job) → IsJob text members job → HasAt text members
-job_has text members job h =
-    ((((((
-    (job.jid, h.named, h.long),
-    (job.jobtype, h.typed, h.some_type)),
-    h.arguments),
-    (job.queue, h.queued)),
-    (job.reserve_for, h.reserved)),
-    (job.retry, h.retried)),
-    (job.at, h.due))
+job_has text members job h = (
+  (
+    (
+      (
+        (
+          (
+            (job.jid, h.named, h.long),
+            (job.jobtype, h.typed, h.some_type),
+          ),
+          h.arguments,
+        ),
+        (job.queue, h.queued),
+      ),
+      (job.reserve_for, h.reserved),
+    ),
+    (job.retry, h.retried),
+  ),
+  (job.at, h.due),
+)
 
 -- ---- each text is a job's, or has a fault
 

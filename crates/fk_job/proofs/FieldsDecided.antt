@@ -45,7 +45,7 @@ by_decoded : {X : Type 0} (Says : List ℕ → X → Type 0) (value decoded : Li
 by_decoded Says value decoded is (inl (x, says)) = inl (x, (decoded, is, says))
 by_decoded Says value decoded is (inr none) =
     inr (λ (x, (other, also, says)).
-        none (x, subst (λ l. Says l x) (one_value value other decoded also is) says))
+    none (x, subst (λ l. Says l x) (one_value value other decoded also is) says))
 
 decoded_decided : {X : Type 0} (Says : List ℕ → X → Type 0)
     → ((decoded : List ℕ) → Decision ((x : X) × Says decoded x))
@@ -67,7 +67,7 @@ by_bytes : (first : ℕ) (name : List ℕ) → (good : Bool) → list_all is_que
 by_bytes first name true e = inl (first ∷ name, (refl, AllPass-from_list_all is_queue_byte (first ∷ name) e))
 by_bytes first name false e =
     inr (λ (queue, (same, good)).
-        false≢true (sym e ∙ list_all-from_AllPass is_queue_byte (first ∷ name) good))
+    false≢true (sym e ∙ list_all-from_AllPass is_queue_byte (first ∷ name) good))
 
 queue_named : (name : List ℕ) → Decision ((queue : List ℕ) × IsQueueNamed name queue)
 queue_named [] = inl (default_queue, refl)
@@ -154,7 +154,7 @@ by_most : (value : List ℕ) (number : ℤ) → IsInteger64 value number → Dec
 by_most value number is (inl below) = inl (reserve_seconds number, (number, is, below, refl))
 by_most value number is (inr above) =
     inr (λ (seconds, (other, also, below, e)).
-        above (subst (λ z. z ≤ℤ pos most_reserve) (integer64_one value other number also is) below))
+    above (subst (λ z. z ≤ℤ pos most_reserve) (integer64_one value other number also is) below))
 
 reserve_says : (value : List ℕ) → Decision ((seconds : ℕ) × SaysReserve value seconds)
 reserve_says value =
