@@ -24,8 +24,3 @@ pub use spelling::{has_spelling, is_text};
 pub use state::{PlainState, PlainWorker, is_running};
 pub use turn::{moves_of_turn, totals};
 pub use waiting::{first_waiting, is_working, leased, queue, rank_in, rank_of};
-
-#[cfg(test)]
-mod fitting_tests;
-#[cfg(test)]
-mod tests;
