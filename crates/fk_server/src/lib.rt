@@ -4,6 +4,8 @@
 mod answer;
 mod batch;
 mod command;
+#[cfg(test)]
+mod dialogue_tests;
 mod key;
 #[cfg(test)]
 mod payload_tests;

@@ -7,24 +7,25 @@ use std::alloc::{AllocError, Global};
 use std::process::Abort;
 use std::test::Fail;
 
-const HELLO: &[u8] = b"HELLO {\"v\":2}\r\n";
+pub(crate) const HELLO: &[u8] = b"HELLO {\"v\":2}\r\n";
 
-const PUSH: &[u8] = b"PUSH {\"jid\":\"abcdefgh\",\"jobtype\":\"Mail\",\"args\":[1,2.50]}\r\n";
+pub(crate) const PUSH: &[u8] =
+    b"PUSH {\"jid\":\"abcdefgh\",\"jobtype\":\"Mail\",\"args\":[1,2.50]}\r\n";
 
 const JID: &[u8] = b"abcdefgh";
 
-const END: &[u8] = b"END\r\n";
+pub(crate) const END: &[u8] = b"END\r\n";
 
 /// How the input comes and which calls fail.
 #[derive(Drop)]
-struct Outside<'a> {
-    cuts: &'a [usize],
-    failing_reads: &'a [u64],
-    failing_writes: &'a [u64],
+pub(crate) struct Outside<'a> {
+    pub cuts: &'a [usize],
+    pub failing_reads: &'a [u64],
+    pub failing_writes: &'a [u64],
 }
 
 /// An input as it comes, and calls that don't fail.
-const PLAIN: Outside<'static> = Outside {
+pub(crate) const PLAIN: Outside<'static> = Outside {
     cuts: &[],
     failing_reads: &[],
     failing_writes: &[],
@@ -32,14 +33,14 @@ const PLAIN: Outside<'static> = Outside {
 
 /// What a run of `pipe` left.
 #[derive(Drop)]
-struct Outcome {
-    status: u8,
-    written: Vec<u8>,
-    kept: Jobs,
-    left: Vec<u8>,
+pub(crate) struct Outcome {
+    pub status: u8,
+    pub written: Vec<u8>,
+    pub kept: Jobs,
+    pub left: Vec<u8>,
 }
 
-fn joined(alloc: Global, parts: &[&[u8]]) -> Result<Vec<u8>, AllocError> {
+pub(crate) fn joined(alloc: Global, parts: &[&[u8]]) -> Result<Vec<u8>, AllocError> {
     let mut whole = Vec::new(alloc);
     for part in parts {
         whole.extend_from_slice(part)?;
@@ -47,7 +48,11 @@ fn joined(alloc: Global, parts: &[&[u8]]) -> Result<Vec<u8>, AllocError> {
     Ok(whole)
 }
 
-fn ran(alloc: Global, parts: &[&[u8]], outside: &Outside) -> Result<Outcome, AllocError> {
+pub(crate) fn ran(
+    alloc: Global,
+    parts: &[&[u8]],
+    outside: &Outside,
+) -> Result<Outcome, AllocError> {
     let bytes = joined(alloc, parts)?;
     let mut input = ByteSource::new(alloc, &bytes, outside.cuts, outside.failing_reads)?;
     let mut output = ByteSink::new(alloc, outside.failing_writes)?;
@@ -168,70 +173,6 @@ fn each_line_has_its_reply(rt: HostRuntime) -> Result<(), Fail> {
     assert_eq!(rt; ran.status, 0);
     assert_eq!(rt; ran.written.as_slice(), wanted.as_slice());
     assert_eq!(rt; ran.kept.len(), 1);
-    Ok(())
-}
-
-/// Runs a long line behind another one, and expects these replies behind the greeting.
-fn expect_replies(
-    rt: &impl Abort,
-    alloc: Global,
-    first: &[u8],
-    length: usize,
-    end: &[u8],
-    replies: &[u8],
-) -> Result<(), AllocError> {
-    let line = vec![in alloc; b'x'; length]?;
-    let ran = ran(alloc, &[first, &line, end], &PLAIN)?;
-    assert_eq!(rt; ran.status, 0);
-    let written = joined(alloc, &[b"+HI {\"v\":2}\r\n", replies])?;
-    assert_eq!(rt; ran.written.as_slice(), written.as_slice());
-    Ok(())
-}
-
-#[test]
-fn a_line_has_at_most_4194304_bytes_with_its_cr(rt: HostRuntime) -> Result<(), Fail> {
-    let unknown = b"+OK\r\n-ERR Unknown command\r\n".as_slice();
-    let too_long = b"+OK\r\n-ERR Line too long\r\n".as_slice();
-    let table = [
-        (4_194_303, b"\r\n".as_slice(), unknown),
-        (4_194_304, b"\r\n", too_long),
-        (4_194_304, b"", b"+OK\r\n"),
-        (4_194_305, b"", too_long),
-    ];
-    for (length, end, replies) in table {
-        expect_replies(&rt, rt.alloc(), HELLO, length, end, replies)?;
-    }
-    Ok(())
-}
-
-#[test]
-fn a_line_too_long_is_refused_before_hello(rt: HostRuntime) -> Result<(), Fail> {
-    let reply = b"-ERR Line too long\r\n";
-    expect_replies(&rt, rt.alloc(), b"", 4_194_305, b"\n", reply)?;
-    Ok(())
-}
-
-#[test]
-fn what_follows_a_line_too_long_is_unread(rt: HostRuntime) -> Result<(), Fail> {
-    let mut cuts = vec![in rt.alloc(); 4_096usize; 1_026]?;
-    cuts[0] = HELLO.len();
-    cuts[1_025] = 2;
-    let outside = Outside {
-        cuts: &cuts,
-        ..PLAIN
-    };
-    let line = vec![in rt.alloc(); b'x'; 4_194_305]?;
-    let ran = ran(rt.alloc(), &[HELLO, &line, b"\n", PUSH, END], &outside)?;
-    assert_eq!(rt; ran.status, 0);
-    assert_eq!(rt;
-        ran.written.as_slice(),
-        b"+HI {\"v\":2}\r\n+OK\r\n-ERR Line too long\r\n".as_slice()
-    );
-    assert_eq!(rt; ran.kept.len(), 0);
-    assert_eq!(rt;
-        ran.left.as_slice(),
-        joined(rt.alloc(), &[PUSH, END])?.as_slice()
-    );
     Ok(())
 }
 
