@@ -15,3 +15,4 @@ pub mod OneJob
 pub mod Within
 pub mod Seen
 pub mod Joined
+pub mod OneFault

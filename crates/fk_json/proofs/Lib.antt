@@ -26,3 +26,4 @@ pub mod MemberPlaces
 pub mod Decided
 pub mod Settled
 pub mod Unique
+pub mod OnePlace

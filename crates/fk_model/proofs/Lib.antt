@@ -4,3 +4,4 @@ pub mod ToldApart
 pub mod Sorting
 pub mod Total
 pub mod Payload
+pub mod OneScript

@@ -1,5 +1,5 @@
-//! Laws over the definitions of states, turns and histories. Each is the contract of a function that
-//! does nothing.
+//! Laws over the definitions of scripts, states, turns and histories. Each is the contract of a function
+//! that does nothing.
 
 ghost use Rattle.std.specs.Prelude.{◌≡◌, ◌++◌, ◌↔◌, AllPairs, Bool, List, count_by, false, ℕ};
 ghost use Rattle.fk_model.specs.declared.ask.Ask.{Ask as AnAsk};
@@ -9,6 +9,8 @@ ghost use Rattle.fk_model.specs.Orders.{comes_before, in_order};
 ghost use Rattle.fk_model.specs.Turns.{turn};
 ghost use Rattle.fk_model.specs.Answers.{IsToldApart};
 ghost use Rattle.fk_model.specs.History.{after, faults_after, IsLegalFrom};
+ghost use Rattle.fk_model.specs.Payloads.{Given};
+ghost use Rattle.fk_model.specs.Script.{IsScript};
 
 /// Sorting pairs is a sort: no pair comes before one that stands ahead of it, and each is there as
 /// often as it was.
@@ -35,4 +37,10 @@ pub fn a_history_goes_on()
 pub fn a_reply_is_told_apart()
     ensures { (s : State) (ask : AnAsk) (moment word : ℕ)
         → IsToldApart (turn s ask moment word).reply }
+{}
+
+/// Each stream has one script: it gives something, and nothing else.
+pub fn a_stream_has_one_script()
+    ensures { (bytes : List ℕ) → (items : List Given) × IsScript bytes items
+        × ((others : List Given) → IsScript bytes others → others ≡ items) }
 {}

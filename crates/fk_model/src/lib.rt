@@ -21,7 +21,9 @@ pub use ask::Ask;
 pub use batch::Batch;
 pub use entry::Entry;
 pub use item::{Item, Phase};
-pub use laws::{a_history_goes_on, a_reply_is_told_apart, pairs_are_sorted};
+pub use laws::{
+    a_history_goes_on, a_reply_is_told_apart, a_stream_has_one_script, pairs_are_sorted,
+};
 pub use move_::Move;
 pub use moves::Moves;
 pub use mutation::{Cmd, Filter, Target};
