@@ -39,7 +39,7 @@ pub fn a_reply_is_told_apart()
         → IsToldApart (turn s ask moment word).reply }
 {}
 
-/// Each stream has one script: it gives something, and nothing else.
+/// Each stream has one script: what it gives is one list of items.
 pub fn a_stream_has_one_script()
     ensures { (bytes : List ℕ) → (items : List Given) × IsScript bytes items
         × ((others : List Given) → IsScript bytes others → others ≡ items) }
