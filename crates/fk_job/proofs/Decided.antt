@@ -1,6 +1,6 @@
 -- Each text is a job's, or has a first fault: not both, and one job.
-use Rattle.std.proofs.Common.{◌≡◌, ◌⊎◌, inl, inr, ℕ, ◌+◌, ℤ, Bool, List, drop, Option, is_some, codes, refl, sym, subst, ◌∙◌}
-use Rattle.std.proofs.lemmas.List.{take-append-drop}
+use Rattle.std.proofs.Common.{◌≡◌, ◌⊎◌, inl, inr, ℕ, ℤ, Bool, List, Option, is_some, codes, refl, sym, subst, ◌∙◌}
+use Rattle.fk_json.proofs.OnePlace.{text_not_deep}
 use Rattle.fk_json.specs.declared.member.Member.{Member}
 use Rattle.fk_json.specs.Json.{FailsAt, IsObjectText, IsTooDeepAt, most_levels}
 use Rattle.fk_json.specs.Members.{inner_levels}
@@ -216,7 +216,5 @@ no_member_fault text job fault (members, is, h) (others, also, first) =
 
 pub fault_none : (text : List ℕ) (job : Job) (fault : JobFault) → IsJobOf text job → ¬ HasFault text fault
 fault_none text job (Syntax at) is fault = fault.none most_levels is.0 is.1
-fault_none text job (TooDeep at) is fault =
-    let whole = sym (take-append-drop (at + 1) text) in
-    fault.too_deep (drop (at + 1) text, is.0, subst (λ t. IsObjectText most_levels t is.0) whole is.1)
+fault_none text job (TooDeep at) is fault = text_not_deep IsObjectText text is.0 at is.1 fault
 fault_none text job fault is has = no_member_fault text job fault is has

@@ -1,5 +1,5 @@
 -- Each field of a job that has a default is as it has to be, or it isn't; and where it is, it is one.
-use Rattle.std.proofs.Common.{◌≡◌, ◌≢◌, inl, inr, ℕ, ◌^◌, ◌≤◌, ℤ, pos, negsuc, ◌≤ℤ◌, FitsSigned, Bool, true, false, List, [], ◌∷◌, Option, None, Some, MatchOption, codes, refl, sym, ap, subst, ◌∙◌, arith}
+use Rattle.std.proofs.Common.{◌≡◌, inl, inr, ℕ, ◌^◌, ℤ, pos, negsuc, ◌≤ℤ◌, FitsSigned, Bool, true, false, List, [], ◌∷◌, Option, None, Some, MatchOption, codes, refl, sym, ap, subst, ◌∙◌, arith}
 use Rattle.std.specs.Int.{w64}
 use Rattle.std.specs.List.{list_all}
 use Rattle.std.proofs.lemmas.Bool.{cases_Bool, cases_lt, false≢true}

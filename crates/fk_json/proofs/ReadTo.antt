@@ -22,6 +22,7 @@ use Rattle.fk_json.specs.declared.cursor.Next.TheVariants as next
 use Rattle.fk_json.specs.declared.fault.JsonFault.{JsonFault}
 use Rattle.fk_json.specs.declared.fault.JsonFault.TheVariants.{Syntax, TooDeep, NoMemory}
 use Rattle.fk_json.specs.Reached.{IsReadTo, Stands}
+use Rattle.fk_json.proofs.OnePlace.{text_not_deep}
 use Rattle.fk_json.proofs.Places.{ends_early, fails_at, too_deep_at}
 use Rattle.fk_json.proofs.Readings.{Ahead, goes_on, read_right, starts, whole_text}
 use Rattle.fk_json.proofs.Stands.{Outcome}
@@ -142,17 +143,6 @@ read_deep outer text at found standing l r is =
     (too_deep_at outer (take at text) found standing (byte_at text at) (drop (suc at) text) r.stands
     (outcome_at outer text at found standing step.TooDeep l r is))
 
--- a text that goes too deep is none of so many levels
-pub deep_none : {I : Type 0} (IsTextIn : ℕ → List ℕ → List I → Type 0) (text : List ℕ) (at : ℕ) (items : List I)
-    → IsTooDeepAt IsTextIn text at → ¬ IsTextIn most_levels text items
-deep_none IsTextIn text at items deep is =
-    deep.too_deep (
-      drop (at + 1) text,
-      items,
-      subst (λ x. IsTextIn most_levels x items)
-          (sym (take-append-drop (at + 1) text)) is,
-    )
-
 -- ---- the end
 
 read_whole : (outer : Bracket) (text : List ℕ) (at : ℕ) (found : List (Item outer)) (standing : Standing)
@@ -259,5 +249,5 @@ finds_member text found cursor behind led item leads e there =
 pub only_memory : (outer : Bracket) (text : List ℕ) (fault : JsonFault) (items : List (Item outer))
     → Faults (IsTextOf outer) text fault → IsTextOf outer most_levels text items → fault ≡ NoMemory
 only_memory outer text (Syntax at) items fails is = absurd (fails.none most_levels items is)
-only_memory outer text (TooDeep at) items deep is = absurd (deep_none (IsTextOf outer) text at items deep is)
+only_memory outer text (TooDeep at) items deep is = absurd (text_not_deep (IsTextOf outer) text items at is deep)
 only_memory outer text NoMemory items tell is = refl

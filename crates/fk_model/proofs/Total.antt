@@ -1,8 +1,8 @@
 -- Each list of lines gives something: a job's text, an object and an array are decided, so that a PUSH
 -- and a PUSHB always have a reply.
-use Rattle.std.proofs.Common.{◌≡◌, ◌⊎◌, ℕ, List, [], ◌∷◌, ◌++◌, ◌+◌, Option, None, Some, drop, slice_range, codes, refl, sym, subst, inl, inr}
-use Rattle.std.proofs.lemmas.List.{take-append-drop}
+use Rattle.std.proofs.Common.{◌≡◌, ◌⊎◌, ℕ, List, [], ◌∷◌, ◌++◌, Option, None, Some, slice_range, codes, refl, subst, inl, inr}
 use Rattle.std.specs.Option.{MatchOption}
+use Rattle.fk_json.proofs.OnePlace.{text_not_deep}
 use Rattle.fk_json.specs.declared.member.Member.{Member}
 use Rattle.fk_json.specs.declared.span.Span.{Span}
 use Rattle.fk_json.specs.Json.{FailsAt, IsArrayText, IsObjectText, IsTooDeepAt, most_levels}
@@ -87,23 +87,13 @@ key_of_object : Laws → (text : List ℕ) (members : List Member) → IsObjectT
 key_of_object laws text members is (inl (jid, has)) = (jid, inl (members, is, has))
 key_of_object laws text members is (inr none) = ([], inr (refl, no_jid laws text members is none))
 
--- too deep a text isn't one of as many levels as are read
-not_too_deep : (text : List ℕ) (at : ℕ) (members : List Member) → IsTooDeepAt IsObjectText text at
-    → IsObjectText most_levels text members → ⊥
-not_too_deep text at members deep is =
-    deep.too_deep (
-      drop (at + 1) text,
-      members,
-      subst (λ all. IsObjectText most_levels all members) (sym (take-append-drop (at + 1) text)) is,
-    )
-
 key_as : Laws → (text : List ℕ) → ObjectDecided text → (key : List ℕ) × HasKey text key
 key_as laws text (inl (members, is)) =
     key_of_object laws text members is (string_or_none laws (value_of text members (codes "jid")))
 key_as laws text (inr (inl (at, fails))) =
     ([], inr (refl, λ members is. absurd (fails.none most_levels members is)))
 key_as laws text (inr (inr (at, deep))) =
-    ([], inr (refl, λ members is. absurd (not_too_deep text at members deep is)))
+    ([], inr (refl, λ members is. absurd (text_not_deep IsObjectText text members at is deep)))
 
 pub key_total : Laws → (text : List ℕ) → (key : List ℕ) × HasKey text key
 key_total laws text = key_as laws text (laws.objects text)

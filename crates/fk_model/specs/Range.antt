@@ -1,5 +1,5 @@
 -- The asks that a turn may be made of: what they bring can be written into a file.
-use Rattle.std.specs.Prelude.{ℕ, ◌<◌, List, length, IfSome, All}
+use Rattle.std.specs.Prelude.{◌<◌, List, length, IfSome, All}
 use Rattle.fk_job.specs.declared.job.Job.{Job}
 use Rattle.fk_model.specs.declared.mutation.Filter.{Filter}
 use Rattle.fk_model.specs.declared.ask.Ask.{Ask}
