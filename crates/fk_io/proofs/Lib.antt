@@ -1,3 +1,5 @@
 pub mod Content
 pub mod Faults
 mod Pieces
+mod Rest
+pub mod Told

@@ -3,3 +3,5 @@ pub mod Faults
 pub mod SourceState
 pub mod Progress
 pub mod SinkState
+pub mod Telling
+pub mod Generator

@@ -55,6 +55,17 @@ impl Pairs {
         Ok(())
     }
 
+    /// Adds all of these pairs at the end, in order, or none of them. It can't fail where there is
+    /// room for them.
+    pub fn extend(&mut self, others: &[(u64, u64)]) -> Result<(), AllocError>
+        ensures ok { OnOk result (self.new.items ≡ self.old.items ++ others.now) }
+        ensures err { OnErr result (self.new.items ≡ self.old.items) }
+        ensures ready { length others.now ≤ self.old.spare → IsOk result }
+    {
+        self.pairs.reserve(others.len())?;
+        self.pairs.extend_from_slice(others)
+    }
+
     /// The pair at a place, counted from 0, or `None` past the end.
     pub fn get(&self, at: usize) -> Option<&(u64, u64)>
         ensures { option_copied result ≡ slice_get self.now.items at }
@@ -81,5 +92,22 @@ impl Pairs {
         ensures kept { length self.old.items + self.old.spare ≤ self.new.spare }
     {
         self.pairs.clear();
+    }
+}
+
+#[cfg(test)]
+mod tests {
+    use super::*;
+    use std::test::Fail;
+
+    #[test]
+    fn pairs_are_added_all_at_once(rt: HostRuntime) -> Result<(), Fail> {
+        let mut pairs = Pairs::new(rt.alloc());
+        pairs.reserve(3)?;
+        pairs.push((1, 2))?;
+        pairs.extend(&[(3, 4), (5, 6)])?;
+        assert_eq!(rt; pairs.len(), 3);
+        assert_eq!(rt; pairs.get(2), Some(&(5, 6)));
+        Ok(())
     }
 }
