@@ -7,10 +7,10 @@ use Rattle.std.specs.List.{list_any}
 use Rattle.fk_frame.specs.Lines.{lines_of}
 use Rattle.fk_frame.specs.declared.line_reader.Line.{Line}
 use Rattle.fk_frame.specs.declared.line_reader.Line.TheVariants.{Whole, Need, TooLong}
+use Rattle.fk_model.specs.declared.item.Item.{Item}
 use Rattle.fk_model.specs.declared.item.Phase.{Phase}
 use Rattle.fk_model.specs.declared.item.Phase.TheVariants.{Greeted, Accepted, Over}
 use Rattle.fk_model.specs.Commands.{is_plain_hello}
-use Rattle.fk_model.specs.Payloads.{Given}
 use Rattle.fk_model.specs.Script.{too_long, ends_talk, phase_after, phase_from, AreItemsOf, AreItemsFrom, IsOver, IsScript}
 use Rattle.fk_model.specs.Advance.{Advances, IsIdle}
 
@@ -19,7 +19,7 @@ pub stays : (phase : Phase) (bytes : List ℕ) → Advances phase bytes [] phase
 stays phase bytes = record { gives = λ more others are. are; comes = λ more. refl }
 
 -- one step and then another
-pub joined : {from mid to : Phase} {bytes at_hand rest : List ℕ} {items more_items : List Given}
+pub joined : {from mid to : Phase} {bytes at_hand rest : List ℕ} {items more_items : List Item}
     → Advances from bytes items mid at_hand → Advances mid at_hand more_items to rest
     → Advances from bytes (items ++ more_items) to rest
 joined {from = from} {bytes = bytes} {items = items} {more_items = more_items} one other = record {
@@ -30,7 +30,7 @@ joined {from = from} {bytes = bytes} {items = items} {more_items = more_items} o
 }
 
 -- a piece is fed
-pub fed : {from to : Phase} {bytes rest : List ℕ} {items : List Given} (piece : List ℕ)
+pub fed : {from to : Phase} {bytes rest : List ℕ} {items : List Item} (piece : List ℕ)
     → Advances from bytes items to rest → Advances from (bytes ++ piece) items to (rest ++ piece)
 fed {from = from} {to = to} {bytes = bytes} {rest = rest} {items = items} piece before = record {
   gives = λ more others are.
@@ -41,7 +41,7 @@ fed {from = from} {to = to} {bytes = bytes} {rest = rest} {items = items} piece 
 }
 
 -- a line is read
-pub by_line : (phase : Phase) (bytes : List ℕ) (line : Line) (items : List Given) (rest : List ℕ)
+pub by_line : (phase : Phase) (bytes : List ℕ) (line : Line) (items : List Item) (rest : List ℕ)
     → AreItemsOf phase line items
     → ((more : List ℕ) → lines_of (bytes ++ more) ≡ line ∷ lines_of (rest ++ more))
     → Advances phase bytes items (phase_after phase line) rest
@@ -57,7 +57,7 @@ unfolding AreItemsOf phase_after
 over_gives [] = refl
 over_gives (line ∷ lines) = ([], [], refl, over_gives lines, refl)
 
-pub over_gives_none : (lines : List Line) (items : List Given) → AreItemsFrom Over lines items → items ≡ []
+pub over_gives_none : (lines : List Line) (items : List Item) → AreItemsFrom Over lines items → items ≡ []
 unfolding AreItemsOf phase_after
 over_gives_none [] items are = are
 over_gives_none (line ∷ lines) items (first, others, given, are, whole) =
@@ -150,7 +150,7 @@ going_behind phase (line ∷ lines) going none =
     ]
 
 -- the talk has come to this phase
-phase_is : (taken : List ℕ) (items : List Given) (phase : Phase) (rest : List ℕ)
+phase_is : (taken : List ℕ) (items : List Item) (phase : Phase) (rest : List ℕ)
     → Advances Greeted taken items phase rest → IsIdle phase rest → phase_from Greeted (lines_of taken) ≡ phase
 phase_is taken items phase rest all (inl over) =
     let comes = rw (append-nil, append-nil) at (all.comes []) in
@@ -160,7 +160,7 @@ phase_is taken items phase rest all (inr none) =
     comes ∙ ap (phase_from phase) none
 
 -- what was given begins a script of what was taken, and the rest of it is what is left gives
-pub begins_script : (taken : List ℕ) (items others : List Given) (phase : Phase) (rest : List ℕ)
+pub begins_script : (taken : List ℕ) (items others : List Item) (phase : Phase) (rest : List ℕ)
     → Advances Greeted taken items phase rest → AreItemsFrom phase (lines_of rest) others
     → IsScript taken (items ++ others)
 begins_script taken items others phase rest all are =
@@ -174,14 +174,14 @@ idle_gives phase rest (inl over) =
 idle_gives phase rest (inr none) = subst (λ lines. AreItemsFrom phase lines []) (sym none) refl
 
 -- where no line is left, what was given is a script of what was taken
-pub script_is : (taken : List ℕ) (items : List Given) (phase : Phase) (rest : List ℕ)
+pub script_is : (taken : List ℕ) (items : List Item) (phase : Phase) (rest : List ℕ)
     → Advances Greeted taken items phase rest → IsIdle phase rest → IsScript taken items
 script_is taken items phase rest all idle =
     subst (IsScript taken) (append-nil items)
     (begins_script taken items [] phase rest all (idle_gives phase rest idle))
 
 -- the client has ended the talk where it is over
-pub over_is : (taken : List ℕ) (items : List Given) (rest : List ℕ)
+pub over_is : (taken : List ℕ) (items : List Item) (rest : List ℕ)
     → Advances Greeted taken items Over rest → IsOver taken
 over_is taken items rest all =
     elim (cases_Bool (list_any ends_talk (lines_of taken))) [
@@ -192,7 +192,7 @@ over_is taken items rest all =
     ]
 
 -- and nowhere else
-pub not_over : (taken : List ℕ) (items : List Given) (phase : Phase) (rest : List ℕ)
+pub not_over : (taken : List ℕ) (items : List Item) (phase : Phase) (rest : List ℕ)
     → Advances Greeted taken items phase rest → IsIdle phase rest → phase ≢ Over → ¬ IsOver taken
 not_over taken items phase rest all idle going ended =
     going (sym (phase_is taken items phase rest all idle) ∙ over_behind Greeted (lines_of taken) ended)

@@ -7,26 +7,27 @@ use Rattle.fk_json.proofs.OnePlace.{fails_or_deep, text_no_fault, text_not_deep}
 use Rattle.fk_json.proofs.Unique.{one_array, one_object}
 use Rattle.fk_frame.specs.declared.line_reader.Line.{Line}
 use Rattle.fk_frame.specs.declared.line_reader.Line.TheVariants.{Whole, Need, TooLong}
-use Rattle.fk_frame.specs.declared.reply.Reply.TheVariants.{Status, Bulk}
 use Rattle.fk_frame.specs.Lines.{lines_of}
 use Rattle.fk_job.proofs.Decided.{fault_none, job_one}
 use Rattle.fk_job.proofs.OneFault.{fault_one}
 use Rattle.fk_job.proofs.Present.{string_one}
 use Rattle.fk_job.specs.Fields.{HasString}
+use Rattle.fk_model.specs.declared.ask.Ask.TheVariants.{Push, PushBatch}
+use Rattle.fk_model.specs.declared.item.Item.{Item}
+use Rattle.fk_model.specs.declared.item.Item.TheVariants.{Asks}
 use Rattle.fk_model.specs.declared.item.Phase.{Phase}
 use Rattle.fk_model.specs.declared.item.Phase.TheVariants.{Greeted, Accepted, Over}
 use Rattle.fk_model.specs.Commands.{arguments}
-use Rattle.fk_model.specs.Payloads.{AreElements, Element, Given, HasKey, IsBatch, IsElement, IsPushed, barred, batch_text, fault_text, jobs_among, refused, taken}
-use Rattle.fk_model.specs.Script.{AreGiven, AreItemsFrom, AreItemsOf, Command, IsGiven, IsScript, batch, command_of, end, hello, phase_after, push, unknown}
+use Rattle.fk_model.specs.Payloads.{AreElements, Element, HasKey, IsBatch, IsElement, IsPushed, barred, batch_text, fault_text, jobs_among, refused, taken}
+use Rattle.fk_model.specs.Script.{AreGiven, AreItemsFrom, AreItemsOf, Command, IsGiven, IsScript, ack, batch, command_of, end, fetch, hello, phase_after, push, unknown}
 use Rattle.fk_model.proofs.Payload.{laws}
 use Rattle.fk_model.proofs.Total.{script_total}
 
 -- ---- a PUSH
 
-pub push_one : (text : List ℕ) (one other : Given) → IsPushed text one → IsPushed text other → one ≡ other
+pub push_one : (text : List ℕ) (one other : Item) → IsPushed text one → IsPushed text other → one ≡ other
 push_one text one other (inl (job, is, gives)) (inl (found, also, given)) =
-    gives ∙ ap (λ j. record { reply = Status (codes "OK"); kept = j ∷ [] }) (job_one text job found is also)
-    ∙ sym given
+    gives ∙ ap (λ j. Asks (Push j)) (job_one text job found is also) ∙ sym given
 push_one text one other (inl (job, is, gives)) (inr (fault, has, given)) =
     absurd (fault_none text job fault is has)
 push_one text one other (inr (fault, has, gives)) (inl (job, is, given)) =
@@ -75,11 +76,11 @@ elements_one text (span ∷ spans) (early ∷ ones) (late ∷ others) is also =
     (element_one (slice_range text span.from span.to) early late is.0 also.0)
     (elements_one text spans ones others is.1 also.1)
 
-pub batch_one : (text : List ℕ) (one other : Given) → IsBatch text one → IsBatch text other → one ≡ other
+pub batch_one : (text : List ℕ) (one other : Item) → IsBatch text one → IsBatch text other → one ≡ other
 batch_one text one other (inl (spans, ones, is, are, gives)) (inl (places, others, also, read, given)) =
     let same = one_array most_levels most_levels text places spans also is in
     let elements = elements_one text spans ones others are (subst (λ s. AreElements text s others) same read) in
-    gives ∙ ap (λ e. record { reply = Bulk (batch_text e); kept = jobs_among e }) elements ∙ sym given
+    gives ∙ ap (λ e. Asks (PushBatch (jobs_among e) (batch_text e))) elements ∙ sym given
 batch_one text one other (inl (spans, ones, is, are, gives)) (inr (inl (at, fails, given))) =
     absurd (text_no_fault IsArrayText text spans at is fails)
 batch_one text one other (inl (spans, ones, is, are, gives)) (inr (inr (at, deep, given))) =
@@ -97,32 +98,36 @@ batch_one text one other (inr (inr (at, deep, gives))) (inr (inr (place, low, gi
 
 -- ---- a line
 
-given_one : (command : Command) (text : List ℕ) (one other : Given) → IsGiven command text one
+given_one : (command : Command) (text : List ℕ) (one other : Item) → IsGiven command text one
     → IsGiven command text other → one ≡ other
 given_one end text one other is also = absurd is
 given_one hello text one other is also = is ∙ sym also
 given_one push text one other is also = push_one text one other is also
 given_one batch text one other is also = batch_one text one other is also
+given_one fetch text one other is also = is ∙ sym also
+given_one ack text one other is also = is ∙ sym also
 given_one unknown text one other is also = is ∙ sym also
 
 -- one thing is given for a line
-abbrev OneGiven : Command → List ℕ → List Given → Type 0
-OneGiven command text items = (given : Given) × IsGiven command text given × (items ≡ given ∷ [])
+abbrev OneGiven : Command → List ℕ → List Item → Type 0
+OneGiven command text items = (item : Item) × IsGiven command text item × (items ≡ item ∷ [])
 
-one_given : (command : Command) (text : List ℕ) (one other : List Given) → OneGiven command text one
+one_given : (command : Command) (text : List ℕ) (one other : List Item) → OneGiven command text one
     → OneGiven command text other → one ≡ other
 one_given command text one other (given, is, whole) (found, also, all) =
     whole ∙ ap (λ g. g ∷ []) (given_one command text given found is also) ∙ sym all
 
-command_one : (command : Command) (text : List ℕ) (one other : List Given) → AreGiven command text one
+command_one : (command : Command) (text : List ℕ) (one other : List Item) → AreGiven command text one
     → AreGiven command text other → one ≡ other
 command_one end text one other is also = is ∙ sym also
 command_one hello text one other is also = one_given hello text one other is also
 command_one push text one other is also = one_given push text one other is also
 command_one batch text one other is also = one_given batch text one other is also
+command_one fetch text one other is also = one_given fetch text one other is also
+command_one ack text one other is also = one_given ack text one other is also
 command_one unknown text one other is also = one_given unknown text one other is also
 
-line_one : (phase : Phase) (line : Line) (one other : List Given) → AreItemsOf phase line one
+line_one : (phase : Phase) (line : Line) (one other : List Item) → AreItemsOf phase line one
     → AreItemsOf phase line other → one ≡ other
 unfolding AreItemsOf
 line_one Over line one other is also = is ∙ sym also
@@ -135,10 +140,10 @@ line_one Accepted (Whole line) one other is also = command_one (command_of line)
 
 -- ---- a stream
 
-joined_same : (first early others late : List Given) → first ≡ early → others ≡ late → first ++ others ≡ early ++ late
+joined_same : (first early others late : List Item) → first ≡ early → others ≡ late → first ++ others ≡ early ++ late
 joined_same first early others late fronts behind = rw (fronts, behind) refl
 
-pub script_one : (phase : Phase) (lines : List Line) (one other : List Given) → AreItemsFrom phase lines one
+pub script_one : (phase : Phase) (lines : List Line) (one other : List Item) → AreItemsFrom phase lines one
     → AreItemsFrom phase lines other → one ≡ other
 script_one phase [] one other is also = is ∙ sym also
 script_one phase (line ∷ lines) one other (first, others, is, are, whole) (early, late, also, read, all) =
@@ -149,7 +154,7 @@ script_one phase (line ∷ lines) one other (first, others, is, are, whole) (ear
 
 -- a stream has a script, and no other
 pub one_script : (bytes : List ℕ)
-    → (items : List Given) × IsScript bytes items × ((others : List Given) → IsScript bytes others → others ≡ items)
+    → (items : List Item) × IsScript bytes items × ((others : List Item) → IsScript bytes others → others ≡ items)
 one_script bytes =
     let (items, is) = script_total laws Greeted (lines_of bytes) in
     (items, is, λ others also. script_one Greeted (lines_of bytes) others items also is)

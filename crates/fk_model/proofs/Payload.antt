@@ -1,10 +1,11 @@
--- What is decided of texts, and so: a PUSH and a PUSHB always have a reply.
+-- What is decided of texts, and so: a PUSH and a PUSHB always give something.
 use Rattle.std.proofs.Common.{ℕ, List}
 use Rattle.fk_json.specs.Json.{most_levels}
 use Rattle.fk_json.proofs.Decided.{array_decided, object_decided, string_decided}
 use Rattle.fk_json.proofs.Unique.{one_object}
 use Rattle.fk_job.proofs.Decided.{job_decided}
-use Rattle.fk_model.specs.Payloads.{Given, IsBatch, IsPushed}
+use Rattle.fk_model.specs.declared.item.Item.{Item}
+use Rattle.fk_model.specs.Payloads.{IsBatch, IsPushed}
 use Rattle.fk_model.proofs.Total as total
 use Rattle.fk_model.proofs.Total.{Laws}
 
@@ -17,8 +18,8 @@ laws = record {
   one_object = one_object most_levels most_levels;
 }
 
-pub push_total : (arguments : List ℕ) → (given : Given) × IsPushed arguments given
+pub push_total : (arguments : List ℕ) → (item : Item) × IsPushed arguments item
 push_total arguments = total.push_total laws arguments
 
-pub batch_total : (arguments : List ℕ) → (given : Given) × IsBatch arguments given
+pub batch_total : (arguments : List ℕ) → (item : Item) × IsBatch arguments item
 batch_total arguments = total.batch_total laws arguments

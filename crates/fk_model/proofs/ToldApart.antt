@@ -1,7 +1,8 @@
 -- No reply that a turn says has the bytes of an answer of a turn that couldn't be made.
-use Rattle.std.proofs.Common.{◌≡◌, ◌≢◌, ℕ, zero, suc, ◌<◌, List, codes, Bool, true, false, Option, None, Some, arith, sym, ap, if◌then◌else◌}
+use Rattle.std.proofs.Common.{◌≡◌, ◌≢◌, ℕ, zero, suc, ◌<◌, List, codes, Bool, true, false, Option, None, Some, arith, refl, sym, ◌∙◌, ap, if◌then◌else◌}
 use Rattle.std.specs.Prelude.{slice_index, slice_index_or}
 use Rattle.std.specs.Option.{option_map_or}
+use Rattle.fk_frame.specs.declared.reply.Reply.{Reply}
 use Rattle.fk_frame.specs.declared.reply.Reply.TheVariants.{Status, Bulk, Nil}
 use Rattle.fk_frame.specs.Replies.{reply_bytes}
 use Rattle.fk_model.specs.declared.row.Row.{Row}
@@ -23,15 +24,21 @@ begins_otherwise r (suc zero) other lt e = other (sym (ap (λ text. slice_index 
 begins_otherwise r (suc (suc zero)) other lt e = other (sym (ap (λ text. slice_index text 0) e))
 begins_otherwise r (suc (suc (suc k))) other lt e = omega (arith, lt)
 
--- the byte behind `-ERR ` tells
-is_not_served : (k : ℕ) → k < 3
-    → slice_index_or turn_texts k (reply_bytes not_served) ≡ reply_bytes not_served → ⊥
-is_not_served zero lt e = let at : 79 ≡ 78 = ap (λ text. slice_index text 5) e in omega (arith, at)
-is_not_served (suc zero) lt e = let at : 70 ≡ 78 = ap (λ text. slice_index text 5) e in omega (arith, at)
-is_not_served (suc (suc zero)) lt e = let at : 68 ≡ 78 = ap (λ text. slice_index text 5) e in omega (arith, at)
-is_not_served (suc (suc (suc k))) lt e = omega (arith, lt)
+-- the byte behind `-ERR ` tells: `O`, `F` and `D` are those of the turns
+goes_on_otherwise : (r : List ℕ) (k : ℕ) → slice_index r 5 ≢ 79 → slice_index r 5 ≢ 70
+    → slice_index r 5 ≢ 68 → k < 3 → slice_index_or turn_texts k r ≡ r → ⊥
+goes_on_otherwise r zero o f d lt e = o (sym (ap (λ text. slice_index text 5) e))
+goes_on_otherwise r (suc zero) o f d lt e = f (sym (ap (λ text. slice_index text 5) e))
+goes_on_otherwise r (suc (suc zero)) o f d lt e = d (sym (ap (λ text. slice_index text 5) e))
+goes_on_otherwise r (suc (suc (suc k))) o f d lt e = omega (arith, lt)
 
-a_status : (text : List ℕ) → IsToldApart (Status text)
+pub an_error : (reply : Reply) (byte : ℕ) → slice_index (reply_bytes reply) 5 ≡ byte
+    → byte ≢ 79 → byte ≢ 70 → byte ≢ 68 → IsToldApart reply
+an_error reply byte at o f d c =
+    goes_on_otherwise (reply_bytes reply) c.0 (λ e. o (sym at ∙ e)) (λ e. f (sym at ∙ e))
+    (λ e. d (sym at ∙ e)) c.1 c.2
+
+pub a_status : (text : List ℕ) → IsToldApart (Status text)
 a_status text c = begins_otherwise _ c.0 (λ e. let same : 43 ≡ 45 = e in omega (arith, same)) c.1 c.2
 
 a_bulk : (text : List ℕ) → IsToldApart (Bulk text)
@@ -41,7 +48,7 @@ no_value : IsToldApart Nil
 no_value c = begins_otherwise _ c.0 (λ e. let same : 36 ≡ 45 = e in omega (arith, same)) c.1 c.2
 
 what_is_not_served : IsToldApart not_served
-what_is_not_served c = is_not_served c.0 c.1 c.2
+what_is_not_served = an_error not_served 78 refl (omega arith) (omega arith) (omega arith)
 
 -- a fetch says the text of a row, or Nil
 a_fetch : (s : State) (moment : ℕ) (wid : List ℕ) (row : Option (ℕ × Row))

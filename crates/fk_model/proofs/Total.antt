@@ -1,7 +1,7 @@
 -- Each list of lines gives something: a job's text, an object and an array are decided, so that a PUSH
--- and a PUSHB always have a reply.
+-- and a PUSHB always ask for a turn or are refused.
 use Rattle.std.proofs.Common.{◌≡◌, ◌⊎◌, ℕ, List, [], ◌∷◌, ◌++◌, Option, None, Some, slice_range, codes, refl, subst, inl, inr}
-use Rattle.std.specs.Option.{MatchOption}
+use Rattle.std.specs.Option.{MatchOption, option_map_or}
 use Rattle.fk_json.proofs.OnePlace.{text_not_deep}
 use Rattle.fk_json.specs.declared.member.Member.{Member}
 use Rattle.fk_json.specs.declared.span.Span.{Span}
@@ -9,16 +9,18 @@ use Rattle.fk_json.specs.Json.{FailsAt, IsArrayText, IsObjectText, IsTooDeepAt, 
 use Rattle.fk_json.specs.String.{IsString}
 use Rattle.fk_frame.specs.declared.line_reader.Line.{Line}
 use Rattle.fk_frame.specs.declared.line_reader.Line.TheVariants.{Whole, Need, TooLong}
-use Rattle.fk_frame.specs.declared.reply.Reply.TheVariants.{Status, Bulk}
 use Rattle.fk_job.specs.declared.fault.JobFault.{JobFault}
 use Rattle.fk_job.specs.declared.job.Job.{Job}
 use Rattle.fk_job.specs.JobText.{HasFault, HasJid, IsJobOf}
 use Rattle.fk_job.specs.Members.{value_of}
+use Rattle.fk_model.specs.declared.ask.Ask.TheVariants.{Push, PushBatch, Fetch}
+use Rattle.fk_model.specs.declared.item.Item.{Item}
+use Rattle.fk_model.specs.declared.item.Item.TheVariants.{Asks}
 use Rattle.fk_model.specs.declared.item.Phase.{Phase}
 use Rattle.fk_model.specs.declared.item.Phase.TheVariants.{Greeted, Accepted, Over}
 use Rattle.fk_model.specs.Commands.{arguments}
-use Rattle.fk_model.specs.Payloads.{Given, Element, taken, barred, fault_text, refused, batch_text, jobs_among, HasKey, IsElement, AreElements, IsPushed, IsBatch}
-use Rattle.fk_model.specs.Script.{Command, end, hello, push, batch, unknown, command_of, handshake_items, not_served, too_long, phase_after, AreGiven, AreItemsOf, AreItemsFrom}
+use Rattle.fk_model.specs.Payloads.{Element, taken, barred, fault_text, refused, acknowledged, batch_text, jobs_among, object_read, queue_names, HasKey, IsElement, AreElements, IsPushed, IsBatch}
+use Rattle.fk_model.specs.Script.{Command, end, hello, push, batch, fetch, ack, unknown, command_of, handshake_items, not_served, too_long, phase_after, AreGiven, AreItemsOf, AreItemsFrom}
 
 -- ---- what is decided of texts
 
@@ -54,12 +56,11 @@ pub record Laws : Type 0 where
 
 -- ---- a PUSH
 
-pushed_as : (arguments : List ℕ) → JobDecided arguments → (given : Given) × IsPushed arguments given
-pushed_as arguments (inl (job, is)) =
-    (record { reply = Status (codes "OK"); kept = job ∷ [] }, inl (job, is, refl))
+pushed_as : (arguments : List ℕ) → JobDecided arguments → (item : Item) × IsPushed arguments item
+pushed_as arguments (inl (job, is)) = (Asks (Push job), inl (job, is, refl))
 pushed_as arguments (inr (fault, has)) = (refused (fault_text fault), inr (fault, has, refl))
 
-pub push_total : Laws → (arguments : List ℕ) → (given : Given) × IsPushed arguments given
+pub push_total : Laws → (arguments : List ℕ) → (item : Item) × IsPushed arguments item
 push_total laws arguments = pushed_as arguments (laws.jobs arguments)
 
 -- ---- a key
@@ -113,31 +114,36 @@ elements_total laws text (span ∷ spans) =
     let others = elements_total laws text spans in
     (first.0 ∷ others.0, (first.1, others.1))
 
-batch_as : Laws → (arguments : List ℕ) → ArrayDecided arguments → (given : Given) × IsBatch arguments given
+batch_as : Laws → (arguments : List ℕ) → ArrayDecided arguments → (item : Item) × IsBatch arguments item
 batch_as laws arguments (inl (spans, is)) =
     let found = elements_total laws arguments spans in (
-      record { reply = Bulk (batch_text found.0); kept = jobs_among found.0 },
+      Asks (PushBatch (jobs_among found.0) (batch_text found.0)),
       inl (spans, found.0, is, found.1, refl),
     )
 batch_as laws arguments (inr (inl (at, fails))) = (refused (codes "Bad JSON"), inr (inl (at, fails, refl)))
 batch_as laws arguments (inr (inr (at, deep))) = (refused (codes "JSON too deep"), inr (inr (at, deep, refl)))
 
-pub batch_total : Laws → (arguments : List ℕ) → (given : Given) × IsBatch arguments given
+pub batch_total : Laws → (arguments : List ℕ) → (item : Item) × IsBatch arguments item
 batch_total laws arguments = batch_as laws arguments (laws.arrays arguments)
 
 -- ---- lines
 
-given_total : Laws → (command : Command) (arguments : List ℕ) → (items : List Given) × AreGiven command arguments items
+given_total : Laws → (command : Command) (arguments : List ℕ) → (items : List Item) × AreGiven command arguments items
 given_total laws end arguments = ([], refl)
 given_total laws hello arguments = (not_served ∷ [], (not_served, refl, refl))
 given_total laws push arguments =
     let found = push_total laws arguments in (found.0 ∷ [], (found.0, found.1, refl))
 given_total laws batch arguments =
     let found = batch_total laws arguments in (found.0 ∷ [], (found.0, found.1, refl))
+given_total laws fetch arguments =
+    let item = Asks (Fetch [] (queue_names arguments)) in (item ∷ [], (item, refl, refl))
+given_total laws ack arguments =
+    let item = option_map_or acknowledged (object_read arguments) (refused (codes "Bad JSON")) in
+    (item ∷ [], (item, refl, refl))
 given_total laws unknown arguments =
     let reply = refused (codes "Unknown command") in (reply ∷ [], (reply, refl, refl))
 
-pub line_total : Laws → (phase : Phase) (line : Line) → (items : List Given) × AreItemsOf phase line items
+pub line_total : Laws → (phase : Phase) (line : Line) → (items : List Item) × AreItemsOf phase line items
 unfolding AreItemsOf
 line_total laws Over line = ([], refl)
 line_total laws Greeted TooLong = (too_long ∷ [], refl)
@@ -147,7 +153,7 @@ line_total laws Accepted Need = ([], refl)
 line_total laws Greeted (Whole line) = (handshake_items line (command_of line), refl)
 line_total laws Accepted (Whole line) = given_total laws (command_of line) (arguments line)
 
-pub script_total : Laws → (phase : Phase) (lines : List Line) → (items : List Given) × AreItemsFrom phase lines items
+pub script_total : Laws → (phase : Phase) (lines : List Line) → (items : List Item) × AreItemsFrom phase lines items
 script_total laws phase [] = ([], refl)
 script_total laws phase (line ∷ lines) =
     let first = line_total laws phase line in

@@ -1,17 +1,17 @@
 -- How a talk goes on while its stream is read in pieces.
 use Rattle.std.specs.Prelude.{◌≡◌, ◌⊎◌, ℕ, List, [], ◌++◌}
 use Rattle.fk_frame.specs.Lines.{lines_of}
+use Rattle.fk_model.specs.declared.item.Item.{Item}
 use Rattle.fk_model.specs.declared.item.Phase.{Phase}
 use Rattle.fk_model.specs.declared.item.Phase.TheVariants.{Over}
-use Rattle.fk_model.specs.Payloads.{Given}
 use Rattle.fk_model.specs.Script.{AreItemsFrom, phase_from}
 
 -- From one phase, with these bytes at hand, the talk gives these items and comes to another phase with
 -- the rest at hand, in whatever way the stream goes on: whatever it gives from there on, it gives
 -- behind them.
 pub record Advances
-    (from : Phase) (bytes : List ℕ) (items : List Given) (to : Phase) (rest : List ℕ) : Type 0 where
-  pub gives : (more : List ℕ) (others : List Given) →
+    (from : Phase) (bytes : List ℕ) (items : List Item) (to : Phase) (rest : List ℕ) : Type 0 where
+  pub gives : (more : List ℕ) (others : List Item) →
       AreItemsFrom to (lines_of (rest ++ more)) others
       → AreItemsFrom from (lines_of (bytes ++ more)) (items ++ others)
   pub comes : (more : List ℕ) →

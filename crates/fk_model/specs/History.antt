@@ -9,6 +9,7 @@ use Rattle.fk_model.specs.declared.told.Compaction.TheVariants.{NotDue}
 use Rattle.fk_model.specs.declared.entry.Entry.{Entry}
 use Rattle.fk_model.specs.Limits.{greatest_next}
 use Rattle.fk_model.specs.State.{State}
+use Rattle.fk_model.specs.Spellings.{IsWord}
 use Rattle.fk_model.specs.Range.{IsInRange}
 use Rattle.fk_model.specs.Said.{Effect}
 use Rattle.fk_model.specs.Turns.{turn}
@@ -44,10 +45,11 @@ IsOverLimit state ask moment word = greatest_next < (turn state ask moment word)
 abbrev pub IsOver : State → Entry → Type 0
 IsOver state entry = IsOverLimit state entry.ask entry.told.moment entry.told.word
 
--- what is told of a turn: a moment below the greatest, and, as long as there is no disk, neither a
--- fault nor a compaction
+-- what is told of a turn: a moment below the greatest, a word of 64 bits, and, as long as there is no
+-- disk, neither a fault nor a compaction
 pub record IsTold (told : Told) : Type 0 where
   pub moment : told.moment < greatest
+  pub word : IsWord told.word
   pub before : told.before ≡ 0
   pub after : told.after ≡ 0
   pub compaction : told.compaction ≡ NotDue
@@ -61,7 +63,8 @@ IsRightAnswer state entry NoMemory = Unit {0}
 IsRightAnswer state entry Full = IsOver state entry
 IsRightAnswer state entry DiskFault = ⊥
 
--- an entry is right in a state: its ask is one that a turn may be made of, and its answer is right
+-- an entry is right in a state: its ask is one that a turn may be made of, what is told of the turn is
+-- as it has to be, and its answer is right
 pub record IsRight (state : State) (entry : Entry) : Type 0 where
   pub in_range : IsInRange entry.ask
   pub told : IsTold entry.told

@@ -1,6 +1,5 @@
 pub mod Commands
 pub mod Payloads
-pub mod Items
 pub mod Script
 pub mod Advance
 pub mod MoveList
@@ -16,4 +15,5 @@ pub mod Requests
 pub mod Said
 pub mod Turns
 pub mod Answers
+pub mod Out
 pub mod History

@@ -1,33 +1,32 @@
--- What a PUSH and a PUSHB give, after Faktory's protocol specification: the jobs that are kept, and the
--- reply. The texts are this server's own.
-use Rattle.std.specs.Prelude.{◌≡◌, ◌⊎◌, ℕ, List, [], ◌∷◌, ◌++◌, codes, slice_range}
-use Rattle.serde_json.specs.Data.{Members, no_members, object, put, string}
+-- What a PUSH, a PUSHB, a FETCH and an ACK give, after Faktory's protocol specification: what a turn
+-- is asked for, or a refusal. The texts are this server's own.
+use Rattle.std.specs.Prelude.{◌≡◌, ◌⊎◌, ℕ, List, [], ◌∷◌, ◌++◌, length, nat_lt, Bool, if◌then◌else◌, Option, None, option_and_then, filter, codes, slice_range}
+use Rattle.std.specs.List.{slice_split}
+use Rattle.std.specs.Option.{option_map_or}
+use Rattle.std.specs.Str.{is_utf8}
+use Rattle.serde_json.specs.Data.{Data, Members, no_members, object, put, string}
+use Rattle.serde_json.specs.Find.{as_object, as_str, get_member}
+use Rattle.serde_json.specs.Read.{read}
 use Rattle.serde_json.specs.Written.{compact_text}
 use Rattle.fk_json.specs.declared.member.Member.{Member}
 use Rattle.fk_json.specs.declared.span.Span.{Span}
 use Rattle.fk_json.specs.Json.{FailsAt, IsArrayText, IsObjectText, IsTooDeepAt, most_levels}
-use Rattle.fk_frame.specs.declared.reply.Reply.{Reply}
-use Rattle.fk_frame.specs.declared.reply.Reply.TheVariants.{Status, Error, Bulk}
+use Rattle.fk_frame.specs.declared.reply.Reply.TheVariants.{Status, Error}
 use Rattle.fk_job.specs.declared.job.Job.{Job}
 use Rattle.fk_job.specs.declared.fault.JobFault.{JobFault}
 use Rattle.fk_job.specs.declared.fault.JobFault.TheVariants.{NoJid, ShortJid, NoType, NoArgs, BadQueue, BadReserve, BadRetry, BadAt, Syntax, TooDeep, NoMemory}
 use Rattle.fk_job.specs.Fields.{HasString}
 use Rattle.fk_job.specs.JobText.{HasFault, HasJid, IsJobOf}
+use Rattle.fk_model.specs.declared.ask.Ask.TheVariants.{Push, PushBatch, Fetch, Ack}
+use Rattle.fk_model.specs.declared.item.Item.{Item}
+use Rattle.fk_model.specs.declared.item.Item.TheVariants.{Own, Asks}
+use Rattle.fk_model.specs.Commands.{is_space}
 
--- what a line gives: the reply to it, and the jobs that are kept
-pub record Given : Type 0 where
-  pub reply : Reply
-  pub kept : List Job
+abbrev pub ok : Item
+ok = Own (Status (codes "OK"))
 
--- a reply alone
-abbrev pub said : Reply → Given
-said reply = record { reply = reply; kept = [] }
-
-abbrev pub ok : Given
-ok = said (Status (codes "OK"))
-
-abbrev pub refused : List ℕ → Given
-refused text = said (Error (codes "ERR " ++ text))
+abbrev pub refused : List ℕ → Item
+refused text = Own (Error (codes "ERR " ++ text))
 
 -- why a text is no job, in the words of an error. Want of memory has no words: it ends the session
 abbrev pub fault_text : JobFault → List ℕ
@@ -45,12 +44,11 @@ fault_text NoMemory = []
 
 -- ---- one job
 
--- a PUSH keeps the job of its arguments, or is refused with their fault
-abbrev pub IsPushed : List ℕ → Given → Type 0
-IsPushed arguments given =
-    ((job : Job) × IsJobOf arguments job
-    × (given ≡ record { reply = Status (codes "OK"); kept = job ∷ [] }))
-    ⊎ ((fault : JobFault) × HasFault arguments fault × (given ≡ refused (fault_text fault)))
+-- a PUSH asks for the job of its arguments to be pushed, or is refused with their fault
+abbrev pub IsPushed : List ℕ → Item → Type 0
+IsPushed arguments item =
+    ((job : Job) × IsJobOf arguments job × (item ≡ Asks (Push job)))
+    ⊎ ((fault : JobFault) × HasFault arguments fault × (item ≡ refused (fault_text fault)))
 
 -- ---- a batch
 
@@ -99,11 +97,56 @@ refusals (barred key reason ∷ elements) members =
 abbrev pub batch_text : List Element → List ℕ
 batch_text elements = compact_text (object (refusals elements no_members))
 
--- a PUSHB keeps the jobs among its elements, or is refused where its arguments are no array
-abbrev pub IsBatch : List ℕ → Given → Type 0
-IsBatch arguments given =
+-- a PUSHB asks for the jobs among its elements to be pushed, where there is none, too, and tells the
+-- others; or it is refused where its arguments are no array
+abbrev pub IsBatch : List ℕ → Item → Type 0
+IsBatch arguments item =
     ((spans : List Span) × (elements : List Element) × IsArrayText most_levels arguments spans
     × AreElements arguments spans elements
-    × (given ≡ record { reply = Bulk (batch_text elements); kept = jobs_among elements }))
-    ⊎ (((at : ℕ) × FailsAt IsArrayText arguments at × (given ≡ refused (codes "Bad JSON")))
-    ⊎ ((at : ℕ) × IsTooDeepAt IsArrayText arguments at × (given ≡ refused (codes "JSON too deep"))))
+    × (item ≡ Asks (PushBatch (jobs_among elements) (batch_text elements))))
+    ⊎ (((at : ℕ) × FailsAt IsArrayText arguments at × (item ≡ refused (codes "Bad JSON")))
+    ⊎ ((at : ℕ) × IsTooDeepAt IsArrayText arguments at × (item ≡ refused (codes "JSON too deep"))))
+
+-- ---- a fetch
+
+-- the text has a byte
+abbrev pub is_some_text : List ℕ → Bool
+is_some_text text = nat_lt 0 (length text)
+
+-- the names, or this one where there is none
+abbrev pub or_default : List (List ℕ) → List (List ℕ)
+or_default [] = codes "default" ∷ []
+or_default (name ∷ names) = name ∷ names
+
+-- the names of queues among the arguments: what stands between their spaces, without what is empty
+abbrev pub queue_names : List ℕ → List (List ℕ)
+queue_names arguments = or_default (filter is_some_text (slice_split is_space arguments))
+
+-- a FETCH asks for a job of the first of these queues that has one, as a producer
+abbrev pub IsFetched : List ℕ → Item → Type 0
+IsFetched arguments item = item ≡ Asks (Fetch [] (queue_names arguments))
+
+-- ---- a job that was done
+
+-- the value that serde_json reads a text as, which has to be UTF-8
+abbrev pub value_read : List ℕ → Option Data
+value_read text = if is_utf8 text then read text else None
+
+-- the members of the object that it is; of two with one name the last counts
+abbrev pub object_read : List ℕ → Option Members
+object_read text = option_and_then as_object (value_read text)
+
+-- the string of this name among the members
+abbrev pub string_among : List ℕ → Members → Option (List ℕ)
+string_among name members = option_and_then as_str (get_member name members)
+
+-- what an ACK of an object gives: its jid is acknowledged
+abbrev pub acknowledged : Members → Item
+acknowledged members =
+    option_map_or (λ jid. Asks (Ack jid)) (string_among (codes "jid") members)
+    (refused (codes "No jid"))
+
+-- an ACK acknowledges the jid of its arguments, or is refused where they are no object
+abbrev pub IsAcknowledged : List ℕ → Item → Type 0
+IsAcknowledged arguments item =
+    item ≡ option_map_or acknowledged (object_read arguments) (refused (codes "Bad JSON"))

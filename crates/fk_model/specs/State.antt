@@ -29,3 +29,7 @@ empty = record { rows = []; next = 1; processed = 0; failures = 0 }
 -- what moves lead from, where they tell a whole kept state: no row, and each number 0
 abbrev pub untold : Kept
 untold = record { rows = []; next = 0; processed = 0; failures = 0 }
+
+-- the state with this kept state and no worker, as a server has it when it begins
+abbrev pub without_workers : Kept → State
+without_workers kept = record { kept = kept; workers = [] }

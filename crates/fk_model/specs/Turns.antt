@@ -37,8 +37,8 @@ moves_of_push moment next jobs =
 abbrev pub move_to : ℕ → Row → Move
 move_to ticket row = Put ticket row.stamp.enqueued row.stamp.failure row.place
 
--- what a request changes, row by row, in a state that was brought up to date from another kept
--- state; the last line goes with the last request
+-- what a request changes, row by row, in a state that was brought up to date from another kept state,
+-- which no request of today looks at; the last line goes with the last request
 unfoldable pub moves_of : Kept → State → Ask → ℕ → ℕ → List Move
 moves_of before state (Push job) moment word = moves_of_push moment state.kept.next (job ∷ [])
 moves_of before state (PushBatch jobs told) moment word = moves_of_push moment state.kept.next jobs

@@ -1,6 +1,5 @@
+use crate::Ask;
 use fk_frame::Reply;
-use fk_job::Jobs;
-use std::marker::Model;
 
 /// How far the talk on one connection has come.
 #[derive(Clone, Copy, Debug, PartialEq, Eq)]
@@ -13,9 +12,11 @@ pub enum Phase {
     Over,
 }
 
-/// What one line of the client gives: the reply to it, and the jobs that are kept.
+/// What one line of the client gives.
 #[derive(Debug, Drop)]
-pub struct Item {
-    pub reply: Reply,
-    pub jobs: Jobs,
+pub enum Item {
+    /// A reply of its own.
+    Own(Reply),
+    /// What a turn is asked for. Its answer is the reply.
+    Asks(Ask),
 }

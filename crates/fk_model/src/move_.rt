@@ -1,3 +1,7 @@
+ghost use Rattle.std.specs.Prelude.{◌↔◌, IsTrue};
+ghost use Rattle.fk_model.specs.Spellings.{HasSpelling};
+
+use crate::spelling::has_spelling;
 use crate::{Place, Row};
 use fk_job::Failure;
 
@@ -29,4 +33,14 @@ pub enum Move {
         processed: u64,
         failures: u64,
     },
+}
+
+impl Move {
+    /// Whether a file can hold it: each number, text and list is within its bound. A move for which
+    /// that isn't so fits nowhere.
+    pub fn has_spelling(&self) -> bool
+        ensures { IsTrue result ↔ HasSpelling self.now }
+    {
+        has_spelling(self)
+    }
 }

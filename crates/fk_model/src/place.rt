@@ -1,4 +1,5 @@
 ghost use Rattle.std.specs.Prelude.{◌≡◌, IfOk};
+ghost use Rattle.fk_model.specs.Orders.{leased_until, rank_of};
 
 use fk_json::Text;
 use std::alloc::AllocError;
@@ -21,6 +22,26 @@ pub enum Place {
 }
 
 impl Place {
+    /// The rank of a row that waits in its queue.
+    pub fn rank(&self) -> Option<u64>
+        ensures { result ≡ rank_of self.now }
+    {
+        match self {
+            Place::Queued { rank } => Some(*rank),
+            _ => None,
+        }
+    }
+
+    /// The moment until which a worker has the row, in milliseconds since 1970-01-01T00:00:00Z.
+    pub fn leased_until(&self) -> Option<u64>
+        ensures { result ≡ leased_until self.now }
+    {
+        match self {
+            Place::Working { until, .. } => Some(*until),
+            _ => None,
+        }
+    }
+
     /// An equal place.
     pub fn copied(&self) -> Result<Place, AllocError>
         ensures { IfOk result (λ copy. copy ≡ self.now) }
