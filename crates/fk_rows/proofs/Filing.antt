@@ -1,5 +1,5 @@
 -- Slots and what is seen of them.
-use Rattle.std.proofs.Common.{◌≡◌, ℕ, zero, suc, ◌<◌, ◌≢◌, List, [], ◌∷◌, ◌++◌, length, take, drop, set, Option, Some, None, option_map, option_and_then, slice_get, refl, ap, arith}
+use Rattle.std.proofs.Common.{◌≡◌, ℕ, zero, suc, ◌<◌, ◌≢◌, List, [], ◌∷◌, ◌++◌, length, map, take, drop, set, Option, Some, None, option_map, option_and_then, slice_get, refl, ap, arith}
 use Rattle.std.specs.List.{AllByRecursion}
 use Rattle.fk_model.specs.declared.row.Row.{Row}
 use Rattle.fk_model.specs.Rows.{ticket_of}
@@ -123,3 +123,11 @@ seen_get slots (entry ∷ entries) zero filed =
 seen_get slots (entry ∷ entries) (suc k) filed =
     let one = has (filed_in slots entry) entry.0 filed.0 in
     rw one.is (seen_get slots entries k filed.1)
+
+-- the tickets that are seen are those of the entries
+pub seen_tickets : (slots : Slots) (entries : List (ℕ × ℕ)) → AllByRecursion (IsFiled slots) entries
+    → map ticket_of (seen slots entries) ≡ map (λ entry. entry.0) entries
+seen_tickets slots [] filed = refl
+seen_tickets slots (entry ∷ entries) filed =
+    let one = has (filed_in slots entry) entry.0 filed.0 in
+    rw (one.is, one.same, seen_tickets slots entries filed.1) refl

@@ -6,7 +6,7 @@ use Rattle.std.proofs.lemmas.Option.{slice_get-get_or, slice_get_past, slice_get
 use Rattle.fk_model.specs.declared.row.Row.{Row}
 use Rattle.fk_model.specs.Rows.{ticket_of, row_of, filed_at, row_at, with_row, with_changed, without_row}
 use Rattle.fk_rows.specs.Stored.{Slots, held_at, filed_in, seen, IsFiled, AreAbove, AreBelow, IsSound}
-use Rattle.fk_rows.specs.Places.{key_at, slot_of, IsAt, IsGap}
+use Rattle.fk_rows.specs.Places.{ticket_at, slot_of, IsAt, IsGap}
 use Rattle.fk_rows.proofs.Parts.{all_left, all_right}
 use Rattle.fk_rows.proofs.Filing.{seen_length, seen_below, seen_above, seen_take, seen_drop, seen_get}
 use Rattle.fk_rows.proofs.Views.{without_absent, filed_absent}
@@ -52,12 +52,12 @@ module _ (entries : List (ℕ × ℕ)) (slots : Slots) (spare : List ℕ) (room 
   pub emptied_seen : seen (set slots (slot_of entries at) None) (remove entries at) ≡ remove (seen slots entries) at
   emptied_seen = take_seen (take at entries) (drop (suc at) entries) (get_or entries at (0, 0)) slots spare room back split_sound ∙ sym removed
 
-  pub filed_here : filed_at (seen slots entries) (key_at entries at) ≡ held_at slots (slot_of entries at)
-  filed_here = subst (λ es. filed_at (seen slots es) (key_at entries at) ≡ held_at slots (slot_of entries at)) split
+  pub filed_here : filed_at (seen slots entries) (ticket_at entries at) ≡ held_at slots (slot_of entries at)
+  filed_here = subst (λ es. filed_at (seen slots es) (ticket_at entries at) ≡ held_at slots (slot_of entries at)) split
       (split_filed (take at entries) (drop (suc at) entries) (get_or entries at (0, 0)) slots spare room back split_sound)
 
-  pub without_here : without_row (seen slots entries) (key_at entries at) ≡ remove (seen slots entries) at
-  without_here = subst (λ es. without_row (seen slots es) (key_at entries at) ≡ seen slots (take at entries) ++ seen slots (drop (suc at) entries)) split
+  pub without_here : without_row (seen slots entries) (ticket_at entries at) ≡ remove (seen slots entries) at
+  without_here = subst (λ es. without_row (seen slots es) (ticket_at entries at) ≡ seen slots (take at entries) ++ seen slots (drop (suc at) entries)) split
       (split_without (take at entries) (drop (suc at) entries) (get_or entries at (0, 0)) slots spare room back split_sound) ∙ sym removed
 
   pub emptied_kept : length (seen (set slots (slot_of entries at) None) (remove entries at)) + length (spare ++ slot_of entries at ∷ []) ≡ length (seen slots entries) + length spare
@@ -65,7 +65,7 @@ module _ (entries : List (ℕ × ℕ)) (slots : Slots) (spare : List ℕ) (room 
 
   module _ (change : Row → Row) where
     told : option_map {T = ℕ × Row} {U = ℕ × Row} (changing change) (held_at slots (slot_of entries at))
-        ≡ Some (key_at entries at, change (here_held (take at entries) (drop (suc at) entries) (get_or entries at (0, 0)) slots spare room back split_sound).filed.1)
+        ≡ Some (ticket_at entries at, change (here_held (take at entries) (drop (suc at) entries) (get_or entries at (0, 0)) slots spare room back split_sound).filed.1)
     told =
         let one = here_held (take at entries) (drop (suc at) entries) (get_or entries at (0, 0)) slots spare room back split_sound in
         rw one.is (ap (under (change one.filed.1)) one.same)
@@ -73,14 +73,14 @@ module _ (entries : List (ℕ × ℕ)) (slots : Slots) (spare : List ℕ) (room 
     pub changed_sound : IsSound entries (set slots (slot_of entries at) (option_map {T = ℕ × Row} {U = ℕ × Row} (changing change) (held_at slots (slot_of entries at)))) spare room back
     changed_sound =
         let one = here_held (take at entries) (drop (suc at) entries) (get_or entries at (0, 0)) slots spare room back split_sound in
-        rw told (subst (λ es. IsSound es (set slots (slot_of entries at) (Some (key_at entries at, change one.filed.1))) spare room back) split
+        rw told (subst (λ es. IsSound es (set slots (slot_of entries at) (Some (ticket_at entries at, change one.filed.1))) spare room back) split
         (change_sound (take at entries) (drop (suc at) entries) (get_or entries at (0, 0)) slots spare room back split_sound (change one.filed.1)))
 
     pub changed_seen : seen (set slots (slot_of entries at) (option_map {T = ℕ × Row} {U = ℕ × Row} (changing change) (held_at slots (slot_of entries at)))) entries
-        ≡ with_changed (seen slots entries) (key_at entries at) change
+        ≡ with_changed (seen slots entries) (ticket_at entries at) change
     changed_seen =
         let one = here_held (take at entries) (drop (suc at) entries) (get_or entries at (0, 0)) slots spare room back split_sound in
-        rw told (subst (λ es. seen (set slots (slot_of entries at) (Some (key_at entries at, change one.filed.1))) es ≡ with_changed (seen slots es) (key_at entries at) change) split
+        rw told (subst (λ es. seen (set slots (slot_of entries at) (Some (ticket_at entries at, change one.filed.1))) es ≡ with_changed (seen slots es) (ticket_at entries at) change) split
         (change_seen (take at entries) (drop (suc at) entries) (get_or entries at (0, 0)) slots spare room back split_sound (change one.filed.1)
         ∙ sym (split_changed (take at entries) (drop (suc at) entries) (get_or entries at (0, 0)) slots spare room back split_sound change)))
 

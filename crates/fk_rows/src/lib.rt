@@ -3,5 +3,7 @@
 
 mod rows;
 mod slots;
+#[cfg(test)]
+mod tests;
 
 pub use rows::Rows;

@@ -1,7 +1,7 @@
-ghost use Rattle.std.specs.Prelude.{◌≡◌, ◌+◌, ◌<◌, ◌≤◌, [], length, option_map, slice_get, IsOk, IsSome, OnOk, None};
+ghost use Rattle.std.specs.Prelude.{◌≡◌, ◌+◌, ◌^◌, ◌<◌, ◌≤◌, [], length, option_map, slice_get, IsOk, IsSome, OnOk, None};
 ghost use Rattle.std.specs.List.{remove};
 ghost use Rattle.std.specs.Option.{option_copied};
-ghost use Rattle.fk_model.specs.Rows.{row_of, filed_at, row_at, with_row, with_changed, without_row};
+ghost use Rattle.fk_model.specs.Rows.{row_of, filed_at, row_at, with_row, with_changed, without_row, IsByTicket};
 ghost use Rattle.fk_model.specs.Changes.{put_row};
 
 use crate::slots::{
@@ -189,7 +189,9 @@ impl Rows {
 
     /// The number of rows.
     pub fn count(&self) -> usize
-        ensures { result ≡ length self.now.items }
+        ensures count { result ≡ length self.now.items }
+        ensures small { result < 2 ^ 63 }
+        ensures order { IsByTicket self.now.items }
     {
         self.entries.len()
     }
@@ -202,61 +204,5 @@ impl Rows {
         'clearing: while self.count() > 0 {
             let _ = self.take_at(0);
         }
-    }
-}
-
-#[cfg(test)]
-mod tests {
-    use super::*;
-    use fk_job::{Job, Stamp};
-    use fk_json::Text;
-    use std::test::Fail;
-
-    /// A row of this jid that waits.
-    fn row(alloc: Global, jid: &'static [u8], rank: u64) -> Row {
-        Row {
-            job: Job {
-                jid: Text::fixed(alloc, jid),
-                jobtype: Text::fixed(alloc, b"Mail"),
-                queue: Text::fixed(alloc, b"default"),
-                retry: 25,
-                reserve_for: 1800,
-                at: None,
-                has_created: false,
-                body: Text::fixed(alloc, b"\"args\":[]"),
-            },
-            stamp: Stamp {
-                created: 1,
-                enqueued: Some(1),
-                failure: None,
-            },
-            place: Place::Queued { rank },
-        }
-    }
-
-    #[test]
-    fn rows_are_put_within_their_room_and_taken_out(rt: HostRuntime) -> Result<(), Fail> {
-        let mut rows = Rows::new(rt.alloc());
-        rows.reserve(3)?;
-        rows.put(5, row(rt.alloc(), b"abcdefgh", 5));
-        rows.put(2, row(rt.alloc(), b"ijklmnop", 2));
-        rows.put(9, row(rt.alloc(), b"qrstuvwx", 9));
-        assert_eq!(rt; rows.count(), 3);
-        assert_eq!(rt; rows.at(0).map(|filed| filed.0), Some(2));
-        assert_eq!(rt; rows.at(2).map(|filed| filed.0), Some(9));
-        let taken = rows.take(5).map(|row| row.stamp.created);
-        assert_eq!(rt; taken, Some(1));
-        assert!(rt; rows.get(5).is_none());
-        rows.put(7, row(rt.alloc(), b"abcdefgh", 7));
-        rows.change(7, None, None, Place::Dead { until: 8 });
-        assert!(rt;
-            matches!(
-                rows.get(7).map(|row| &row.place),
-                Some(Place::Dead { until: 8 })
-            )
-        );
-        rows.clear();
-        assert_eq!(rt; rows.count(), 0);
-        Ok(())
     }
 }
