@@ -1,0 +1,7 @@
+use Rattle.fk_lists.proofs.Renewed.{rising_without}
+use Rattle.fk_leases.proofs.leases.Leases.take_at.Goals as goal
+
+pub invariant_of-self : goal.invariant_of-self
+invariant_of-self c =
+    rising_without c.args.jid.now c.args.at c.self.inside.lists.items c.remove.new.self.items c.self.invariant
+    (record { here = c.remove.ensures.here; others = c.remove.ensures.others.items })

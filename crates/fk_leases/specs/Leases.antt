@@ -1,0 +1,37 @@
+-- Leases: under each jid, the tickets of the rows of that jid that workers have, each with the moment
+-- until which it is theirs, in milliseconds since 1970-01-01T00:00:00Z.
+use Rattle.std.specs.Prelude.{ℕ, ◌==◌, ◌&&◌, ◌≢◌, not, nat_lt, List, Option, map, filter, All}
+use Rattle.std.specs.List.Sorted.{IsStrictlyIncreasing}
+use Rattle.fk_model.specs.Orders.{in_order}
+use Rattle.fk_lists.specs.Room.{Named, list_at, all_pairs}
+use Rattle.fk_lists.specs.Least.{least}
+
+-- the ticket of a lease
+abbrev pub leased_ticket : ℕ × ℕ → ℕ
+leased_ticket lease = lease.0
+
+-- the moment until which it runs
+abbrev pub leased_until : ℕ × ℕ → ℕ
+leased_until lease = lease.1
+
+-- the leases of each jid are in order of ticket
+abbrev pub AreByTicket : Named → Type 0
+AreByTicket leases = (jid : List ℕ) → IsStrictlyIncreasing (map leased_ticket (list_at leases jid))
+
+-- no lease is of this ticket
+abbrev pub IsAbsent : ℕ → List (ℕ × ℕ) → Type 0
+IsAbsent ticket leases = All (λ lease. leased_ticket lease ≢ ticket) leases
+
+-- without the lease of this ticket until this moment
+abbrev pub without_lease : ℕ → ℕ → List (ℕ × ℕ) → List (ℕ × ℕ)
+without_lease ticket until leases =
+    filter (λ lease. not ((leased_ticket lease == ticket) && (leased_until lease == until))) leases
+
+-- the least moment until which a lease runs
+abbrev pub first_until : Named → Option ℕ
+first_until leases = least (map leased_until (all_pairs leases))
+
+-- the leases that run at most until a moment, in order of ticket
+abbrev pub run_out : ℕ → Named → List (ℕ × ℕ)
+run_out moment leases =
+    in_order (filter (λ lease. not (nat_lt moment (leased_until lease))) (all_pairs leases))

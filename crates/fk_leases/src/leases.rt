@@ -1,0 +1,227 @@
+ghost use Rattle.std.specs.Prelude.{◌≡◌, ◌≢◌, ◌↔◌, ◌++◌, ◌^◌, ◌-◌, ◌+◌, ◌<◌, ◌≤◌, ℕ, List, [], length, min, option_map, slice_get, Contains, IsFalse, IsOk, IsTrue, OnErr, OnOk, Some};
+ghost use Rattle.std.specs.List.{remove};
+ghost use Rattle.fk_model.specs.Orders.{with_pair};
+ghost use Rattle.fk_lists.specs.Room.{all_pairs, list_at, mark_at, spare_at, AreNamed, IsLean, OthersStay};
+ghost use Rattle.fk_leases.specs.Leases.{first_until, leased_ticket, leased_until, run_out, without_lease, AreByTicket, IsAbsent};
+
+use fk_json::{Pairs, Text};
+use fk_lists::Lists;
+use std::alloc::{AllocError, Global};
+use std::marker::Model;
+
+/// The leases: under each jid pairs of a ticket and the moment until which its row is a worker's, in
+/// milliseconds since 1970-01-01T00:00:00Z, by ticket; and for each jid the number of leases that may
+/// be put without taking memory.
+#[derive(Drop)]
+pub struct Leases {
+    lists: Lists,
+}
+
+impl Model for Leases {
+    ghost use Rattle.fk_lists.specs.Room.{Room};
+    ghost use Rattle.fk_leases.specs.Leases.{AreByTicket};
+
+    ghost Value = { Room };
+
+    ghost view = { λ leases. leases.lists };
+
+    ghost invariant = { λ leases. AreByTicket leases.lists.items };
+}
+
+impl Leases {
+    /// No lease. It takes no memory.
+    pub fn new(alloc: Global) -> Leases
+        ensures items { result.items ≡ [] }
+        ensures spares { result.spares ≡ [] }
+        ensures marks { result.marks ≡ [] }
+    {
+        Leases {
+            lists: Lists::new(alloc),
+        }
+    }
+
+    /// Makes room for more leases of a jid. The leases stay, and so does the room that was there.
+    pub fn reserve(&mut self, jid: &Text, more: usize) -> Result<(), AllocError>
+        ensures ok { OnOk result (more ≤ spare_at self.new.spares jid.now) }
+        ensures kept { (other : List ℕ)
+            → spare_at self.old.spares other ≤ spare_at self.new.spares other }
+        ensures same { self.new.items ≡ self.old.items }
+        ensures ready { more ≤ spare_at self.old.spares jid.now → IsOk result }
+    {
+        self.lists.reserve(jid, more)
+    }
+
+    /// Puts a lease of a ticket that has none under this jid.
+    pub fn put(&mut self, jid: &Text, ticket: u64, until: u64)
+        requires room { 0 < spare_at self.old.spares jid.now }
+        requires absent { IsAbsent ticket (list_at self.old.items jid.now) }
+        ensures here { list_at self.new.items jid.now
+            ≡ with_pair (ticket, until) (list_at self.old.items jid.now) }
+        ensures others { OthersStay jid.now self.old self.new }
+        ensures spare { spare_at self.new.spares jid.now + 1 ≡ spare_at self.old.spares jid.now }
+    {
+        match self.lists.place_of(jid, ticket) {
+            Ok(_) => (),
+            Err(at) => self.lists.insert(jid, at, (ticket, until)),
+        }
+    }
+
+    /// The least ticket that has a lease under this jid.
+    pub fn find(&self, jid: &Text) -> Option<u64>
+        ensures ticket { result
+            ≡ option_map leased_ticket (slice_get (list_at self.now.items jid.now) 0) }
+        ensures order { AreByTicket self.now.items }
+    {
+        match self.lists.get(jid, 0) {
+            Some((ticket, _)) => Some(ticket),
+            None => None,
+        }
+    }
+
+    /// Takes a lease out, and tells whether it was there. The rooms stay. A jid whose last lease is
+    /// taken and that has no room is forgotten.
+    pub fn take(&mut self, jid: &Text, ticket: u64, until: u64) -> bool
+        ensures found { IsTrue result
+            ↔ Contains (list_at self.old.items jid.now) (ticket, until) }
+        ensures here { list_at self.new.items jid.now
+            ≡ without_lease ticket until (list_at self.old.items jid.now) }
+        ensures others { OthersStay jid.now self.old self.new }
+        ensures kept { spare_at self.new.spares jid.now ≡ spare_at self.old.spares jid.now }
+        ensures lean { IsTrue result → IsLean self.new }
+    {
+        match self.lists.place_of(jid, ticket) {
+            Err(_) => false,
+            Ok(at) => self.take_at(jid, at, until),
+        }
+    }
+
+    // Takes the lease at a place out, if it runs until this moment.
+    fn take_at(&mut self, jid: &Text, at: usize, until: u64) -> bool
+        ensures found { IsTrue result
+            ↔ (option_map leased_until (slice_get (list_at self.old.items jid.now) at)
+            ≡ Some until) }
+        ensures taken { IsTrue result → list_at self.new.items jid.now
+            ≡ remove (list_at self.old.items jid.now) at }
+        ensures left { IsFalse result → list_at self.new.items jid.now
+            ≡ list_at self.old.items jid.now }
+        ensures others { OthersStay jid.now self.old self.new }
+        ensures kept { spare_at self.new.spares jid.now ≡ spare_at self.old.spares jid.now }
+        ensures lean { IsTrue result → IsLean self.new }
+    {
+        match self.lists.get(jid, at) {
+            Some((_, ends)) if ends == until => {
+                let _ = self.lists.remove(jid, at);
+                true
+            }
+            _ => false,
+        }
+    }
+
+    /// The least moment until which a lease runs.
+    pub fn first(&self) -> Option<u64>
+        ensures until { result ≡ first_until self.now.items }
+        ensures named { AreNamed self.now.items }
+    {
+        self.lists.least()
+    }
+
+    /// Adds the ticket and the end of each lease that runs at most until a moment, by ticket, at the
+    /// end, or leaves `out` as it is.
+    pub fn due(&self, moment: u64, out: &mut Pairs) -> Result<(), AllocError>
+        ensures ok { OnOk result (out.new.items
+            ≡ out.old.items ++ run_out moment self.now.items) }
+        ensures err { OnErr result (out.new.items ≡ out.old.items) }
+        ensures named { AreNamed self.now.items }
+    {
+        self.lists.up_to(moment, out)
+    }
+
+    /// The number of leases, which stands still at the end of its type.
+    pub fn count(&self) -> usize
+        ensures count { result ≡ min (length (all_pairs self.now.items)) (2 ^ 64 - 1) }
+        ensures named { AreNamed self.now.items }
+    {
+        self.lists.count()
+    }
+
+    /// Marks room for one lease of a jid, beside what is marked, and makes it where it isn't there.
+    /// No call but this one and `unmark` says what becomes of marks.
+    pub fn mark(&mut self, jid: &Text) -> Result<(), AllocError>
+        ensures ok { OnOk result
+            (mark_at self.new.marks jid.now ≡ mark_at self.old.marks jid.now + 1) }
+        ensures err { OnErr result
+            (mark_at self.new.marks jid.now ≡ mark_at self.old.marks jid.now) }
+        ensures within { OnOk result
+            (mark_at self.new.marks jid.now ≤ spare_at self.new.spares jid.now) }
+        ensures others { (other : List ℕ) → other ≢ jid.now
+            → mark_at self.new.marks other ≡ mark_at self.old.marks other }
+        ensures kept { (other : List ℕ)
+            → spare_at self.old.spares other ≤ spare_at self.new.spares other }
+        ensures same { self.new.items ≡ self.old.items }
+        ensures ready { mark_at self.old.marks jid.now < spare_at self.old.spares jid.now
+            → IsOk result }
+    {
+        self.lists.mark(jid)
+    }
+
+    /// Takes all marks of a jid away.
+    pub fn unmark(&mut self, jid: &Text)
+        ensures mark { mark_at self.new.marks jid.now ≡ 0 }
+        ensures others { (other : List ℕ) → other ≢ jid.now
+            → mark_at self.new.marks other ≡ mark_at self.old.marks other }
+        ensures kept { (other : List ℕ)
+            → spare_at self.new.spares other ≡ spare_at self.old.spares other }
+        ensures same { self.new.items ≡ self.old.items }
+    {
+        self.lists.unmark(jid);
+    }
+
+    /// Takes all leases out. The rooms stay. Jids that have no room are forgotten.
+    pub fn clear(&mut self)
+        ensures items { self.new.items ≡ [] }
+        ensures kept { (jid : List ℕ)
+            → spare_at self.new.spares jid ≡ spare_at self.old.spares jid }
+        ensures lean { IsLean self.new }
+    {
+        self.lists.clear();
+    }
+}
+
+#[cfg(test)]
+mod tests {
+    use super::*;
+    use std::test::Fail;
+
+    #[test]
+    fn the_least_ticket_of_a_jid_is_found(rt: HostRuntime) -> Result<(), Fail> {
+        let jid = Text::fixed(rt.alloc(), b"abcdefgh");
+        let mut leases = Leases::new(rt.alloc());
+        leases.reserve(&jid, 2)?;
+        leases.put(&jid, 5, 900);
+        leases.put(&jid, 2, 1000);
+        assert_eq!(rt; (leases.find(&jid), leases.first()), (Some(2), Some(900)));
+        let mut pairs = Pairs::new(rt.alloc());
+        leases.due(1000, &mut pairs)?;
+        assert_eq!(rt;
+            (pairs.get(0), pairs.get(1)),
+            (Some(&(2, 1000)), Some(&(5, 900)))
+        );
+        assert!(rt; !leases.take(&jid, 2, 999));
+        assert!(rt; leases.take(&jid, 2, 1000));
+        assert_eq!(rt; (leases.find(&jid), leases.count()), (Some(5), 1));
+        Ok(())
+    }
+
+    #[test]
+    fn a_lease_enters_the_room_that_was_marked(rt: HostRuntime) -> Result<(), Fail> {
+        let jid = Text::fixed(rt.alloc(), b"abcdefgh");
+        let mut leases = Leases::new(rt.alloc());
+        leases.mark(&jid)?;
+        leases.unmark(&jid);
+        leases.put(&jid, 5, 900);
+        assert_eq!(rt; leases.find(&jid), Some(5));
+        leases.clear();
+        assert_eq!(rt; leases.first(), None);
+        Ok(())
+    }
+}

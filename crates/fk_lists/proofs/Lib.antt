@@ -1,0 +1,12 @@
+pub mod Rising
+pub mod Renewed
+pub mod Counted
+pub mod Leasts
+pub mod NamesInOrder
+pub mod Lookups
+pub mod Updates
+pub mod InUse
+pub mod Unseen
+pub mod Searched
+pub mod Cleared
+pub mod Sorted

@@ -1,0 +1,5 @@
+pub mod Room
+pub mod Sizes
+pub mod Least
+pub mod Places
+pub mod PairLists

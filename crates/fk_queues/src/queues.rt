@@ -1,0 +1,196 @@
+ghost use Rattle.std.specs.Prelude.{◌≡◌, ◌≢◌, ◌∷◌, ◌++◌, ◌+◌, ◌-◌, ◌<◌, ◌≤◌, ℕ, List, [], drop, length, slice_get, All, IfOk, IsOk, OnErr, OnOk};
+ghost use Rattle.fk_model.specs.Orders.{number_in};
+ghost use Rattle.fk_lists.specs.Room.{list_at, mark_at, spare_at, AreNamed, IsLean, OthersStay};
+ghost use Rattle.fk_lists.specs.Sizes.{sizes_of};
+ghost use Rattle.fk_queues.specs.Queues.{AreByRank};
+
+use fk_json::{Pairs, Text};
+use fk_lists::{Lists, Sizes};
+use std::alloc::{AllocError, Global};
+use std::marker::Model;
+
+/// The queues: under each name pairs of a rank and a ticket, by rank, and for each name the number of
+/// pairs that may be put without taking memory.
+#[derive(Drop)]
+pub struct Queues {
+    lists: Lists,
+}
+
+impl Model for Queues {
+    ghost use Rattle.fk_lists.specs.Room.{Room};
+    ghost use Rattle.fk_queues.specs.Queues.{AreByRank};
+
+    ghost Value = { Room };
+
+    ghost view = { λ queues. queues.lists };
+
+    ghost invariant = { λ queues. AreByRank queues.lists.items };
+}
+
+impl Queues {
+    /// No queue. It takes no memory.
+    pub fn new(alloc: Global) -> Queues
+        ensures items { result.items ≡ [] }
+        ensures spares { result.spares ≡ [] }
+        ensures marks { result.marks ≡ [] }
+    {
+        Queues {
+            lists: Lists::new(alloc),
+        }
+    }
+
+    /// Makes room for more rows of a queue. The queues stay, and so does the room that was there.
+    pub fn reserve(&mut self, queue: &Text, more: usize) -> Result<(), AllocError>
+        ensures ok { OnOk result (more ≤ spare_at self.new.spares queue.now) }
+        ensures kept { (name : List ℕ)
+            → spare_at self.old.spares name ≤ spare_at self.new.spares name }
+        ensures same { self.new.items ≡ self.old.items }
+        ensures ready { more ≤ spare_at self.old.spares queue.now → IsOk result }
+    {
+        self.lists.reserve(queue, more)
+    }
+
+    /// Puts a row at the end of a queue.
+    pub fn put(&mut self, queue: &Text, rank: u64, ticket: u64)
+        requires room { 0 < spare_at self.old.spares queue.now }
+        requires last { All (λ pair. number_in pair < rank) (list_at self.old.items queue.now) }
+        ensures here { list_at self.new.items queue.now
+            ≡ list_at self.old.items queue.now ++ (rank, ticket) ∷ [] }
+        ensures others { OthersStay queue.now self.old self.new }
+        ensures spare { spare_at self.new.spares queue.now + 1
+            ≡ spare_at self.old.spares queue.now }
+    {
+        let end = self.lists.len(queue);
+        self.lists.insert(queue, end, (rank, ticket));
+    }
+
+    /// The rank and the ticket of a queue's first row.
+    pub fn first(&self, queue: &Text) -> Option<(u64, u64)>
+        ensures value { result ≡ slice_get (list_at self.now.items queue.now) 0 }
+        ensures order { AreByRank self.now.items }
+    {
+        self.lists.get(queue, 0)
+    }
+
+    /// Takes a queue's first row out, and gives its rank and its ticket. The rooms stay. A queue that
+    /// has neither a row nor room is forgotten.
+    pub fn take_first(&mut self, queue: &Text) -> Option<(u64, u64)>
+        ensures value { result ≡ slice_get (list_at self.old.items queue.now) 0 }
+        ensures here { list_at self.new.items queue.now ≡ drop 1 (list_at self.old.items queue.now) }
+        ensures others { OthersStay queue.now self.old self.new }
+        ensures kept { spare_at self.new.spares queue.now ≡ spare_at self.old.spares queue.now }
+        ensures lean { IsLean self.new }
+        ensures order { AreByRank self.old.items }
+    {
+        self.lists.remove(queue, 0)
+    }
+
+    /// Adds the ranks and tickets of a queue, by rank, at the end, or leaves `out` as it is.
+    pub fn listed(&self, queue: &Text, out: &mut Pairs) -> Result<(), AllocError>
+        ensures ok { OnOk result (out.new.items ≡ out.old.items ++ list_at self.now.items queue.now) }
+        ensures err { OnErr result (out.new.items ≡ out.old.items) }
+        ensures order { AreByRank self.now.items }
+    {
+        self.lists.listed(queue, out)
+    }
+
+    /// The queues that have a row, in order of the bytes of their names, each with the number of its
+    /// rows.
+    pub fn sizes(&self) -> Result<Sizes, AllocError>
+        ensures sizes { IfOk result (λ sizes. sizes ≡ sizes_of self.now.items) }
+        ensures named { AreNamed self.now.items }
+    {
+        self.lists.sizes()
+    }
+
+    /// The rank and the ticket of a queue's last row.
+    pub fn last(&self, queue: &Text) -> Option<(u64, u64)>
+        ensures value { result ≡ slice_get (list_at self.now.items queue.now)
+            (length (list_at self.now.items queue.now) - 1) }
+        ensures order { AreByRank self.now.items }
+    {
+        match self.lists.len(queue) {
+            0 => None,
+            count => self.lists.get(queue, count - 1),
+        }
+    }
+
+    /// Marks room for one row of a queue, beside what is marked, and makes it where it isn't there.
+    /// No call but this one and `unmark` says what becomes of marks.
+    pub fn mark(&mut self, queue: &Text) -> Result<(), AllocError>
+        ensures ok { OnOk result
+            (mark_at self.new.marks queue.now ≡ mark_at self.old.marks queue.now + 1) }
+        ensures err { OnErr result
+            (mark_at self.new.marks queue.now ≡ mark_at self.old.marks queue.now) }
+        ensures within { OnOk result
+            (mark_at self.new.marks queue.now ≤ spare_at self.new.spares queue.now) }
+        ensures others { (other : List ℕ) → other ≢ queue.now
+            → mark_at self.new.marks other ≡ mark_at self.old.marks other }
+        ensures kept { (other : List ℕ)
+            → spare_at self.old.spares other ≤ spare_at self.new.spares other }
+        ensures same { self.new.items ≡ self.old.items }
+        ensures ready { mark_at self.old.marks queue.now < spare_at self.old.spares queue.now
+            → IsOk result }
+    {
+        self.lists.mark(queue)
+    }
+
+    /// Takes all marks of a queue away.
+    pub fn unmark(&mut self, queue: &Text)
+        ensures mark { mark_at self.new.marks queue.now ≡ 0 }
+        ensures others { (other : List ℕ) → other ≢ queue.now
+            → mark_at self.new.marks other ≡ mark_at self.old.marks other }
+        ensures kept { (other : List ℕ)
+            → spare_at self.new.spares other ≡ spare_at self.old.spares other }
+        ensures same { self.new.items ≡ self.old.items }
+    {
+        self.lists.unmark(queue);
+    }
+
+    /// Takes all rows out. The rooms stay. Queues that have no room are forgotten.
+    pub fn clear(&mut self)
+        ensures items { self.new.items ≡ [] }
+        ensures kept { (name : List ℕ)
+            → spare_at self.new.spares name ≡ spare_at self.old.spares name }
+        ensures lean { IsLean self.new }
+    {
+        self.lists.clear();
+    }
+}
+
+#[cfg(test)]
+mod tests {
+    use super::*;
+    use std::test::Fail;
+
+    #[test]
+    fn rows_wait_by_rank_and_leave_from_the_front(rt: HostRuntime) -> Result<(), Fail> {
+        let mail = Text::fixed(rt.alloc(), b"mail");
+        let mut queues = Queues::new(rt.alloc());
+        queues.reserve(&mail, 2)?;
+        queues.put(&mail, 3, 3);
+        queues.put(&mail, 7, 2);
+        assert_eq!(rt; queues.first(&mail), Some((3, 3)));
+        let mut pairs = Pairs::new(rt.alloc());
+        queues.listed(&mail, &mut pairs)?;
+        assert_eq!(rt; pairs.get(1), Some(&(7, 2)));
+        assert_eq!(rt; queues.sizes()?.get(0).map(|size| size.count), Some(2));
+        assert_eq!(rt; queues.take_first(&mail), Some((3, 3)));
+        assert_eq!(rt; queues.take_first(&mail), Some((7, 2)));
+        assert_eq!(rt; queues.take_first(&mail), None);
+        Ok(())
+    }
+
+    #[test]
+    fn a_row_enters_the_room_that_was_marked(rt: HostRuntime) -> Result<(), Fail> {
+        let mail = Text::fixed(rt.alloc(), b"mail");
+        let mut queues = Queues::new(rt.alloc());
+        queues.mark(&mail)?;
+        queues.unmark(&mail);
+        queues.put(&mail, 3, 3);
+        assert_eq!(rt; queues.last(&mail), Some((3, 3)));
+        queues.clear();
+        assert_eq!(rt; queues.first(&mail), None);
+        Ok(())
+    }
+}
