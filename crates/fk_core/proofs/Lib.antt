@@ -1,0 +1,17 @@
+pub mod Standings
+pub mod RowEnters
+pub mod RowLeaves
+pub mod RoomLeft
+pub mod MovesMade
+pub mod MovesAllowed
+pub mod KnownRows
+pub mod PutCounts
+pub mod MarksTogether
+pub mod NoRows
+pub mod Leased
+pub mod RowPut
+pub mod MovesInTurn
+pub mod BelowNumber
+pub mod WellKept
+pub mod Owned
+pub mod SizesOfQueues

@@ -1,0 +1,9 @@
+pub mod Held
+pub mod Reserved
+pub mod Entrances
+pub mod Index
+pub mod Marks
+pub mod Marked
+pub mod Tied
+pub mod Sizes
+pub mod Makes
