@@ -1,5 +1,5 @@
 -- Whether one of the jobs is due later: the one at hand, or one of those behind it.
-use Rattle.std.proofs.Common.{◌≡◌, ℕ, ◌+◌, suc, List, drop, Option, None, Some, ap, false, ◌||◌}
+use Rattle.std.proofs.Common.{◌≡◌, ℕ, suc, List, drop, Some, ap, ◌||◌}
 use Rattle.std.specs.List.{slice_get, list_any}
 use Rattle.fk_job.specs.declared.job.Job.{Job}
 use Rattle.fk_model.specs.Requests.{is_later}

@@ -8,3 +8,4 @@ pub mod Moving
 pub mod Closing
 pub mod Adding
 pub mod Allowing
+pub mod Taking

@@ -1,5 +1,5 @@
 -- Moves one behind the other: what is left of them, from where those before it lead, is the whole.
-use Rattle.std.proofs.Common.{◌≡◌, ℕ, suc, ◌≤◌, List, drop, length, Option, Some, ap}
+use Rattle.std.proofs.Common.{◌≡◌, ℕ, suc, ◌≤◌, List, drop, length, Some, ap}
 use Rattle.std.proofs.Math.ListN.{drop_of_length-le}
 use Rattle.std.specs.List.{slice_get}
 use Rattle.fk_model.specs.declared.move_.Move.{Move}

@@ -1,5 +1,5 @@
 -- Jobs are pushed one behind the other: what is left of them, pushed upon what is there, is the whole.
-use Rattle.std.proofs.Common.{◌≡◌, ℕ, suc, List, drop, Option, None, Some, ap}
+use Rattle.std.proofs.Common.{◌≡◌, ℕ, suc, List, drop, None, Some, ap}
 use Rattle.std.specs.List.{slice_get}
 use Rattle.fk_job.specs.declared.job.Job.{Job}
 use Rattle.fk_model.specs.State.{Kept}

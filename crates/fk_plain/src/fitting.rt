@@ -4,7 +4,7 @@ ghost use Rattle.fk_model.specs.Orders.{is_queued, number_in, rank_of};
 ghost use Rattle.fk_model.specs.Between.{IsAboveAll};
 ghost use Rattle.fk_model.specs.Changes.{ComesLast, Fits, IsAllowed, IsBehindQueue, IsFirstOf, IsNextNumber, MayGo};
 
-use crate::{PlainKept, has_spelling, queue, rank_of};
+use crate::{PlainKept, queue, rank_of};
 use fk_json::Text;
 use fk_model::{Move, Place, Row};
 use std::alloc::{AllocError, Global};
@@ -17,7 +17,7 @@ pub fn fits(alloc: Global, kept: &PlainKept, step: &Move) -> Result<bool, AllocE
     ensures { IfOk result (λ yes. IsTrue yes ↔ Fits kept.now step.now) }
 {
     let allowed = is_allowed(alloc, kept, step)?;
-    Ok(has_spelling(step) && allowed)
+    Ok(step.has_spelling() && allowed)
 }
 
 /// Whether the kept state allows a move.

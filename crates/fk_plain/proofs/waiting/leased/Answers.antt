@@ -1,5 +1,4 @@
-use Rattle.std.proofs.Common.{◌∙◌, ap}
-use Rattle.std.specs.Prelude.{bytes_eq, find}
+use Rattle.std.specs.Prelude.{bytes_eq}
 use Rattle.fk_model.specs.Rows.{row_of}
 use Rattle.fk_model.specs.Orders.{is_working}
 use Rattle.fk_plain.proofs.Finding.{find_among}
