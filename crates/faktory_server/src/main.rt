@@ -1,12 +1,14 @@
 //! The job server's program: `faktory_server pipe` serves its standard input and output.
 #![tactic(auto)]
 
-use fk_io::{StdSink, StdSource};
-use fk_job::Jobs;
+use fk_core::Tables;
+use fk_io::{RandDice, RealClock, StdSink, StdSource};
 use fk_server::pipe;
 use std::alloc::AllocError;
 use std::process::ExitCode;
+use std::random::RandomSource;
 use std::rt::Env;
+use std::time::Clock;
 use std::{env, io};
 
 /// The exit status for words that aren't valid.
@@ -36,14 +38,28 @@ fn words_of<R: Env + AllocGlobal>(rt: &R) -> io::Result<Vec<String>> {
     Ok(words)
 }
 
-/// Serves the standard input and output by these words, and answers the exit status.
-fn serve<R: Input + Print + AllocGlobal>(rt: &R, words: &[String]) -> Result<u8, AllocError> {
+/// Serves the standard input and output by these words, over the state of a new server, and answers
+/// the exit status.
+fn serve<R: Input + Print + Clock + RandomSource + AllocGlobal>(
+    rt: &R,
+    words: &[String],
+) -> Result<u8, AllocError> {
     let mut texts = Vec::new(rt.alloc());
     for word in words {
         texts.push(word.as_str())?;
     }
-    let mut kept = Jobs::new(rt.alloc());
+    let mut dice = RandDice::new(rt)?;
+    let mut clock = RealClock::new(rt);
+    let mut tables = Tables::empty(rt.alloc());
     let mut input = StdSource::new(rt);
     let mut output = StdSink::new(rt);
-    Ok(pipe(rt.alloc(), &texts, &mut input, &mut output, &mut kept))
+    Ok(pipe(
+        rt.alloc(),
+        &texts,
+        &mut input,
+        &mut output,
+        &mut tables,
+        &mut clock,
+        &mut dice,
+    ))
 }

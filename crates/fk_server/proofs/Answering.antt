@@ -1,17 +1,18 @@
 -- Lines that are answered one after another.
-use Rattle.std.proofs.Common.{◌≡◌, ◌≢◌, ℕ, List, [], ◌∷◌, ◌++◌, Result, Ok, Err, inl, inr, refl}
+use Rattle.std.proofs.Common.{◌≡◌, ◌≢◌, ℕ, List, [], ◌∷◌, ◌++◌, Option, None, Some, Result, Ok, Err, inl, inr, refl, append_assoc}
+use Rattle.std.specs.Prelude.{option_to_list}
 use Rattle.std.specs.Result.{OnOk, IfErr}
 use Rattle.fk_io.specs.declared.fault.Ended.{Ended}
 use Rattle.fk_io.specs.declared.fault.Ended.TheVariants.{NoMemory}
 use Rattle.fk_frame.specs.declared.line_reader.Line.TheVariants.{Whole}
 use Rattle.fk_frame.specs.Reading.{IsFirstLine, HasLongLine}
+use Rattle.fk_model.specs.declared.item.Item.{Item}
 use Rattle.fk_model.specs.declared.item.Phase.{Phase}
 use Rattle.fk_model.specs.declared.item.Phase.TheVariants.{Over}
 use Rattle.fk_model.specs.Advance.{Advances}
-use Rattle.fk_model.specs.Payloads.{Given}
 use Rattle.fk_model.specs.Script.{AreItemsOf, phase_after, too_long}
 use Rattle.fk_model.proofs.Advance.{stays, joined, by_line, by_long_line}
-use Rattle.fk_server.specs.Answering.{Results, Gives, GivesLine, StopsGiving, StopsAtLine, Standing, Answers, StopsAnswering}
+use Rattle.fk_server.specs.Answering.{Results, Gives, GivesLine, StopsGiving, StopsAtItem, StopsAtLine, Standing, Answers, StopsAnswering}
 use Rattle.fk_server.proofs.Giving.{gives_nothing, gives_both, starved_first, stops_giving_behind}
 
 -- no line was answered
@@ -23,7 +24,7 @@ answers_nothing now = record {
 }
 
 -- some lines were answered, and then more of them
-answers_more : (old mid new : Standing) (items : List Given) → Answers old mid
+answers_more : (old mid new : Standing) (items : List Item) → Answers old mid
     → Advances mid.phase mid.lines items new.phase new.lines → Gives mid.done new.done items → Answers old new
 answers_more old mid new items before goes gives = record {
   items = before.items ++ items;
@@ -32,19 +33,20 @@ answers_more old mid new items before goes gives = record {
 }
 
 -- some lines were answered, and then the answering stopped
-stops_behind_answers : (ended : Ended) (old mid : Standing) (done : Results) (items : List Given) (phase : Phase)
-    (rest : List ℕ) → Answers old mid → Advances mid.phase mid.lines items phase rest
-    → StopsGiving ended mid.done done items → StopsAnswering ended old done
-stops_behind_answers ended old mid done items phase rest before goes stops = record {
-  items = before.items ++ items;
+stops_behind_answers : (ended : Ended) (old mid : Standing) (done : Results) (begun : Option Item) (phase : Phase)
+    (rest : List ℕ) → Answers old mid → Advances mid.phase mid.lines (option_to_list begun) phase rest
+    → StopsGiving ended mid.done done [] begun → StopsAnswering ended old done
+stops_behind_answers ended old mid done begun phase rest before goes stops = record {
+  answered = before.items ++ [];
+  begun = begun;
   phase = phase;
   rest = rest;
-  advances = joined before.advances goes;
-  stops = stops_giving_behind ended old.done mid.done done before.items items before.gives stops;
+  advances = rw (append_assoc before.items [] (option_to_list begun)) (joined before.advances goes);
+  stops = stops_giving_behind ended old.done mid.done done before.items [] begun before.gives stops;
 }
 
 -- a whole line is what the talk goes on by
-line_advances : (phase : Phase) (bytes line rest : List ℕ) (items : List Given) → IsFirstLine bytes line rest
+line_advances : (phase : Phase) (bytes line rest : List ℕ) (items : List Item) → IsFirstLine bytes line rest
     → AreItemsOf phase (Whole line) items → Advances phase bytes items (phase_after phase (Whole line)) rest
 line_advances phase bytes line rest items first are = by_line phase bytes (Whole line) items rest are first.lines
 
@@ -53,24 +55,24 @@ pub answers_line : (old mid new : Standing) (line : List ℕ) → Answers old mi
     → new.phase ≡ phase_after mid.phase (Whole line) → GivesLine mid.phase (Whole line) mid.done new.done
     → Answers old new
 answers_line old mid new line before first comes given =
-    answers_more old mid new given.items before
-    (rw comes (line_advances mid.phase mid.lines line new.lines given.items first given.are)) given.gives
+    answers_more old mid new (option_to_list given.item) before
+    (rw comes (line_advances mid.phase mid.lines line new.lines (option_to_list given.item) first given.are)) given.gives
 
--- the answering of a whole line stopped: before it gave anything, the line stands among what is left
+-- the answering of a whole line stopped: before its turn was made, the line stands among what is left
 pub stops_at_line : (ended : Ended) (old mid : Standing) (done : Results) (line rest : List ℕ)
     → Answers old mid → IsFirstLine mid.lines line rest
     → StopsAtLine ended mid.phase (Whole line) mid.done done → StopsAnswering ended old done
 stops_at_line ended old mid done line rest before first (inl stops) =
-    stops_behind_answers ended old mid done [] mid.phase mid.lines before (stays mid.phase mid.lines) stops
-stops_at_line ended old mid done line rest before first (inr (items, are, stops)) =
-    stops_behind_answers ended old mid done items (phase_after mid.phase (Whole line)) rest before
-    (line_advances mid.phase mid.lines line rest items first are) stops
+    stops_behind_answers ended old mid done None mid.phase mid.lines before (stays mid.phase mid.lines) stops
+stops_at_line ended old mid done line rest before first (inr (item, are, stops)) =
+    stops_behind_answers ended old mid done item (phase_after mid.phase (Whole line)) rest before
+    (line_advances mid.phase mid.lines line rest (option_to_list item) first are) stops
 
 -- memory ran out between two lines
 pub starved_between : (old mid : Standing) → Answers old mid → StopsAnswering NoMemory old mid.done
 starved_between old mid before =
-    stops_behind_answers NoMemory old mid mid.done [] mid.phase mid.lines before (stays mid.phase mid.lines)
-    (starved_first mid.done mid.done [] refl refl)
+    stops_behind_answers NoMemory old mid mid.done None mid.phase mid.lines before (stays mid.phase mid.lines)
+    (starved_first mid.done mid.done refl refl)
 
 -- a line that is too long was answered, or was not
 pub answers_long_line : (r : Result (Unit {0}) Ended) (old mid new : Standing)
@@ -81,11 +83,19 @@ answers_long_line (Ok x) old mid new before long going over gives =
     (rw over (by_long_line mid.phase mid.lines new.lines going long.lines)) gives
 answers_long_line (Err ended) old mid new before long going over gives = tt
 
+stops_in_long_line : (ended : Ended) (old mid : Standing) (done : Results) (rest : List ℕ)
+    → Answers old mid → HasLongLine mid.lines rest → mid.phase ≢ Over
+    → StopsAtItem ended mid.done done (Some too_long) → StopsAnswering ended old done
+stops_in_long_line ended old mid done rest before long going (inl stops) =
+    stops_behind_answers ended old mid done None mid.phase mid.lines before (stays mid.phase mid.lines) stops
+stops_in_long_line ended old mid done rest before long going (inr stops) =
+    stops_behind_answers ended old mid done (Some too_long) Over rest before
+    (by_long_line mid.phase mid.lines rest going long.lines) stops
+
 pub stops_at_long_line : (r : Result (Unit {0}) Ended) (old mid : Standing) (done : Results) (rest : List ℕ)
     → Answers old mid → HasLongLine mid.lines rest → mid.phase ≢ Over
-    → IfErr r (λ ended. StopsGiving ended mid.done done (too_long ∷ []))
+    → IfErr r (λ ended. StopsAtItem ended mid.done done (Some too_long))
     → IfErr r (λ ended. StopsAnswering ended old done)
 stops_at_long_line (Ok x) old mid done rest before long going stops = tt
 stops_at_long_line (Err ended) old mid done rest before long going stops =
-    stops_behind_answers ended old mid done (too_long ∷ []) Over rest before
-    (by_long_line mid.phase mid.lines rest going long.lines) stops
+    stops_in_long_line ended old mid done rest before long going stops

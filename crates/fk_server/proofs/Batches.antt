@@ -9,13 +9,13 @@ use Rattle.serde_json.specs.Written.{compact_text, members_have_float}
 use Rattle.fk_json.specs.declared.span.Span.{Span}
 use Rattle.fk_json.specs.Members.{IsElementIn, inner_levels}
 use Rattle.fk_json.specs.Json.{IsArrayText, most_levels}
-use Rattle.fk_frame.specs.declared.reply.Reply.TheVariants.{Bulk}
 use Rattle.fk_job.specs.declared.job.Job.{Job}
 use Rattle.fk_job.specs.declared.fault.JobFault.{JobFault}
 use Rattle.fk_job.specs.JobText.{HasFault, IsJobOf}
+use Rattle.fk_model.specs.declared.ask.Ask.TheVariants.{PushBatch}
 use Rattle.fk_model.specs.declared.item.Item.{Item}
-use Rattle.fk_model.specs.Items.{given_of}
-use Rattle.fk_model.specs.Payloads.{AreElements, Element, taken, barred, Given, HasKey, IsBatch, IsElement, batch_text, fault_text, jobs_among, refusals}
+use Rattle.fk_model.specs.declared.item.Item.TheVariants.{Asks}
+use Rattle.fk_model.specs.Payloads.{AreElements, Element, taken, barred, HasKey, IsBatch, IsElement, batch_text, fault_text, jobs_among, refusals}
 use Rattle.fk_server.specs.declared.batch.Batch.{Batch}
 use Rattle.fk_server.specs.Batches.{Grows, IsReadAs}
 use Rattle.fk_server.proofs.Told.{refused_without_float}
@@ -105,26 +105,26 @@ reads_on text spans at old new within before grows =
     ap (λ count. take count spans) next ∙ take-suc spans at no_span within in
     rw longer (reads_next text (take at spans) _ old new before grows)
 
--- the answer to a batch that was read whole
-told_of : (text : List ℕ) (spans : List Span) (batch : Batch) (given : Given) → IsArrayText most_levels text spans
+-- what a batch that was read whole asks for
+told_of : (text : List ℕ) (spans : List Span) (batch : Batch) (item : Item) → IsArrayText most_levels text spans
     → IsReadAs text spans batch
-    → given ≡ record { reply = Bulk (compact_text (object (members_view batch.refusals.entries))); kept = batch.jobs.items }
-    → IsBatch text given
-told_of text spans batch given is reads same = inl (
+    → item ≡ Asks (PushBatch batch.jobs.items (compact_text (object (members_view batch.refusals.entries))))
+    → IsBatch text item
+told_of text spans batch item is reads same = inl (
   spans,
   reads.elements,
   is,
   reads.are_read,
-  same ∙ ap (λ told. record { reply = Bulk (compact_text (object told)); kept = batch.jobs.items }) reads.told
-      ∙ ap (λ jobs. record { reply = Bulk (batch_text reads.elements); kept = jobs }) reads.jobs,
+  same ∙ ap (λ told. Asks (PushBatch batch.jobs.items (compact_text (object told)))) reads.told
+      ∙ ap (λ jobs. Asks (PushBatch jobs (batch_text reads.elements))) reads.jobs,
 )
 
 pub tells_batch : {E : Type 0} (text : List ℕ) (spans : List Span) (batch : Batch) (found : Result Item E)
     → IsArrayText most_levels text spans → IsReadAs text spans batch
-    → IfOk found (λ item. given_of item
-    ≡ record { reply = Bulk (compact_text (object (members_view batch.refusals.entries))); kept = batch.jobs.items })
-    → IfOk found (λ item. IsBatch text (given_of item))
-tells_batch text spans batch (Ok item) is reads same = told_of text spans batch (given_of item) is reads same
+    → IfOk found (λ item. item
+    ≡ Asks (PushBatch batch.jobs.items (compact_text (object (members_view batch.refusals.entries)))))
+    → IfOk found (IsBatch text)
+tells_batch text spans batch (Ok item) is reads same = told_of text spans batch item is reads same
 tells_batch text spans batch (Err refused) is reads same = tt
 
 -- no refusal of a batch is a float

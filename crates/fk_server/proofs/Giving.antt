@@ -1,124 +1,125 @@
--- What lines give: replies that are written and jobs that are kept, whole or up to where a step gives
+-- What items give: turns that are made and replies that are written, whole or up to where a step gives
 -- up.
-use Rattle.std.proofs.Common.{◌≡◌, ℕ, List, [], ◌∷◌, ◌++◌, Result, Ok, Err, refl, ap, sym, ◌∙◌, append_assoc}
-use Rattle.std.proofs.lemmas.List.{append-nil}
-use Rattle.std.proofs.lemmas.Grind.{flat_map-append}
-use Rattle.std.specs.Result.{IfErr}
+use Rattle.std.proofs.Common.{◌≡◌, List, [], ◌∷◌, ◌++◌, length, Option, None, Some, Result, Ok, Err, inr, refl, ap, sym, ◌∙◌, append_assoc}
+use Rattle.std.specs.Prelude.{option_to_list}
+use Rattle.std.specs.Result.{OnOk, IfErr}
+use Rattle.std.proofs.lemmas.List.{length-map, map-append}
 use Rattle.fk_io.specs.declared.fault.Ended.{Ended}
 use Rattle.fk_io.specs.declared.fault.Ended.TheVariants.{NoMemory}
+use Rattle.fk_frame.specs.declared.reply.Reply.{Reply}
 use Rattle.fk_frame.specs.Replies.{reply_bytes}
-use Rattle.fk_job.specs.declared.job.Job.{Job}
-use Rattle.fk_model.specs.Payloads.{Given}
-use Rattle.fk_model.specs.Script.{kept_jobs, replies}
-use Rattle.fk_server.specs.Answering.{Wrote, StopsWriting, Results, Gives, KeptSoFar, StopsGiving}
-use Rattle.fk_server.proofs.Writing.{wrote_nothing, wrote_both, starved_at_once, begins_behind, stopped_begins, stops_behind}
+use Rattle.fk_model.specs.declared.entry.Entry.{Entry}
+use Rattle.fk_model.specs.declared.item.Item.{Item}
+use Rattle.fk_model.specs.Out.{asks_of, out, output}
+use Rattle.fk_model.proofs.Outs.{asks_of-append, out-append, output-append}
+use Rattle.fk_server.specs.Turning.{Replies, answers_in, asks_in}
+use Rattle.fk_server.specs.Answering.{Wrote, StopsWriting, Results, Gives, StopsAtItem, StopsGiving}
+use Rattle.fk_server.proofs.Turning.{turned_nothing, turned_both}
+use Rattle.fk_server.proofs.Writing.{wrote_nothing, wrote_both, starved_at_once, begins_behind, stops_behind}
 
-pub replies-append : (xs ys : List Given) → replies (xs ++ ys) ≡ replies xs ++ replies ys
-replies-append xs ys = flat_map-append (λ item. reply_bytes item.reply) xs ys
+-- ---- histories of items
 
-pub kept_jobs-append : (xs ys : List Given) → kept_jobs (xs ++ ys) ≡ kept_jobs xs ++ kept_jobs ys
-kept_jobs-append xs ys = flat_map-append (λ item. item.kept) xs ys
+-- there is an answer for each ask
+one_each : (items : List Item) (history : List Entry) → asks_in history ≡ asks_of items
+    → length (answers_in history) ≡ length (asks_of items)
+one_each items history asks =
+    length-map history (λ entry. entry.answer) ∙ sym (length-map history (λ entry. entry.ask)) ∙ ap length asks
 
--- the jobs of some items were kept, and then those of more
-pub keeps_both : (old mid new : List Job) (items more : List Given) → mid ≡ old ++ kept_jobs items
-    → new ≡ mid ++ kept_jobs more → new ≡ old ++ kept_jobs (items ++ more)
-keeps_both old mid new items more first second =
-    second ∙ ap (λ kept. kept ++ kept_jobs more) first
-    ∙ append_assoc old (kept_jobs items) (kept_jobs more)
-    ∙ ap (λ all. old ++ all) (sym (kept_jobs-append items more))
+-- the asks of some items and then of more
+pub asks_both : (items more : List Item) (xs ys : List Entry) → asks_in xs ≡ asks_of items
+    → asks_in ys ≡ asks_of more → asks_in (xs ++ ys) ≡ asks_of (items ++ more)
+asks_both items more xs ys first second =
+    map-append (λ entry. entry.ask) xs ys ∙ rw (first, second) (sym (asks_of-append items more))
+
+-- what is due to them
+pub out_both : (items more : List Item) (xs ys : List Entry) → asks_in xs ≡ asks_of items
+    → out (items ++ more) (answers_in (xs ++ ys)) ≡ out items (answers_in xs) ++ out more (answers_in ys)
+out_both items more xs ys first =
+    ap (out (items ++ more)) (map-append (λ entry. entry.answer) xs ys)
+    ∙ out-append items more (answers_in xs) (answers_in ys) (one_each items xs first)
+
+pub output_both : (items more : List Item) (xs ys : List Entry) → asks_in xs ≡ asks_of items
+    → output (items ++ more) (answers_in (xs ++ ys)) ≡ output items (answers_in xs) ++ out more (answers_in ys)
+output_both items more xs ys first =
+    ap (output (items ++ more)) (map-append (λ entry. entry.answer) xs ys)
+    ∙ output-append items more (answers_in xs) (answers_in ys) (one_each items xs first)
 
 -- ---- whole
 
 -- nothing was given
 pub gives_nothing : (now : Results) → Gives now now []
-gives_nothing now = record { wrote = wrote_nothing now.out; keeps = sym (append-nil now.kept) }
+gives_nothing now = record {
+  history = [];
+  asks = refl;
+  turned = turned_nothing now.server;
+  wrote = wrote_nothing now.out;
+}
 
 -- some items were given, and then more
-pub gives_both : (old mid new : Results) (items more : List Given) → Gives old mid items → Gives mid new more
+pub gives_both : (old mid new : Results) (items more : List Item) → Gives old mid items → Gives mid new more
     → Gives old new (items ++ more)
 gives_both old mid new items more first second = record {
-  wrote = rw (replies-append items more)
-      (wrote_both old.out mid.out new.out (replies items) (replies more) first.wrote second.wrote);
-  keeps = keeps_both old.kept mid.kept new.kept items more first.keeps second.keeps;
+  history = first.history ++ second.history;
+  asks = asks_both items more first.history second.history first.asks second.asks;
+  turned = turned_both old.server mid.server new.server first.history second.history first.turned second.turned;
+  wrote = rw (out_both items more first.history second.history first.asks)
+      (wrote_both old.out mid.out new.out _ _ first.wrote second.wrote);
 }
 
 -- one item was given
-pub gives_one : (old new : Results) (given : Given) → Wrote old.out new.out (reply_bytes given.reply)
-    → new.kept ≡ old.kept ++ given.kept → Gives old new (given ∷ [])
-gives_one old new given wrote keeps = record {
-  wrote = rw (append-nil (reply_bytes given.reply)) wrote;
-  keeps = rw (append-nil given.kept) keeps;
+pub gives_one : (r : Result (Unit {0}) Ended) (old new : Results) (item : Item) (reply : Reply)
+    → Replies old.server new.server item reply → OnOk r (Wrote old.out new.out (reply_bytes reply))
+    → OnOk r (Gives old new (item ∷ []))
+gives_one (Ok x) old new item reply replied wrote = record {
+  history = replied.history;
+  asks = replied.asks;
+  turned = replied.turned;
+  wrote = rw replied.bytes at wrote;
 }
+gives_one (Err ended) old new item reply replied wrote = tt
 
 -- ---- up to where a step gives up
 
--- no job is kept, and nothing was written
-pub kept_none : (kept now : List Job) (items : List Given) → now ≡ kept → KeptSoFar kept now items []
-kept_none kept now items same = record {
-  front = [];
-  others = items;
-  whole = refl;
-  kept = same ∙ sym (append-nil kept);
-  no_more = ([], refl);
-}
-
--- memory ran out before a job was kept or a byte was written
-pub starved_first : (old new : Results) (items : List Given) → new.out ≡ old.out → new.kept ≡ old.kept
-    → StopsGiving NoMemory old new items
-starved_first old new items same kept = record {
+-- memory ran out before a turn was made or a byte was written
+pub starved_first : (old new : Results) → new.out ≡ old.out → new.server ≡ old.server
+    → StopsGiving NoMemory old new [] None
+starved_first old new same stays = record {
+  history = [];
+  asks = refl;
+  turned = rw stays (turned_nothing old.server);
   part = [];
-  stops = rw same (starved_at_once old.out (replies items));
-  so_far = kept_none old.kept new.kept items kept;
+  whole = ([], refl);
+  stops = rw same (starved_at_once old.out []);
 }
 
--- an item's jobs were kept, and then its reply wasn't written whole
-pub stops_at_reply : (ended : Ended) (old new : Results) (given : Given)
-    → StopsWriting ended old.out new.out (reply_bytes given.reply) → new.kept ≡ old.kept ++ given.kept
-    → StopsGiving ended old new (given ∷ [])
-stops_at_reply ended old new given writing keeps = record {
+-- an item's reply wasn't written whole
+pub stops_at_reply : (r : Result (Unit {0}) Ended) (old new : Results) (item : Item) (reply : Reply)
+    → Replies old.server new.server item reply
+    → IfErr r (λ ended. StopsWriting ended old.out new.out (reply_bytes reply))
+    → IfErr r (λ ended. StopsAtItem ended old new (Some item))
+stops_at_reply (Ok x) old new item reply replied writing = tt
+stops_at_reply (Err ended) old new item reply replied writing = inr (record {
+  history = replied.history;
+  asks = replied.asks;
+  turned = replied.turned;
   part = writing.part;
-  stops = rw (append-nil (reply_bytes given.reply)) writing.stops;
-  so_far = record {
-    front = given ∷ [];
-    others = [];
-    whole = refl;
-    kept = rw (append-nil given.kept) keeps;
-    no_more = rw (append-nil (reply_bytes given.reply))
-        (stopped_begins ended old.out new.out (reply_bytes given.reply) writing.part writing.stops);
-  };
-}
+  whole = (writing.part, refl);
+  stops = rw replied.bytes at writing.stops;
+})
 
--- and that wherever the writing gave up
-pub reply_stops : (r : Result (Unit {0}) Ended) (old new : Results) (given : Given)
-    → IfErr r (λ ended. StopsWriting ended old.out new.out (reply_bytes given.reply))
-    → new.kept ≡ old.kept ++ given.kept → IfErr r (λ ended. StopsGiving ended old new (given ∷ []))
-reply_stops (Ok x) old new given writing keeps = tt
-reply_stops (Err ended) old new given writing keeps = stops_at_reply ended old new given writing keeps
-
--- an item's jobs were kept, and then memory ran out
-pub starved_at_reply : (old new : Results) (given : Given) → new.out ≡ old.out → new.kept ≡ old.kept ++ given.kept
-    → StopsGiving NoMemory old new (given ∷ [])
-starved_at_reply old new given same keeps =
-    stops_at_reply NoMemory old new given
-    (record { part = []; stops = rw same (starved_at_once old.out (reply_bytes given.reply)) }) keeps
-
--- some items were given, and of more a part
-pub kept_behind : (old mid new : List Job) (items more : List Given) (part : List ℕ) → mid ≡ old ++ kept_jobs items
-    → KeptSoFar mid new more part → KeptSoFar old new (items ++ more) (replies items ++ part)
-kept_behind old mid new items more part first so_far = record {
-  front = items ++ so_far.front;
-  others = so_far.others;
-  whole = ap (λ all. items ++ all) so_far.whole ∙ sym (append_assoc items so_far.front so_far.others);
-  kept = keeps_both old mid new items so_far.front first so_far.kept;
-  no_more = rw (replies-append items so_far.front)
-      (begins_behind (replies items) part (replies so_far.front) so_far.no_more);
-}
-
-pub stops_giving_behind : (ended : Ended) (old mid new : Results) (items more : List Given) → Gives old mid items
-    → StopsGiving ended mid new more → StopsGiving ended old new (items ++ more)
-stops_giving_behind ended old mid new items more first stops = record {
-  part = replies items ++ stops.part;
-  stops = rw (replies-append items more)
-      (stops_behind ended old.out mid.out new.out (replies items) (replies more) stops.part first.wrote stops.stops);
-  so_far = kept_behind old.kept mid.kept new.kept items more stops.part first.keeps stops.so_far;
-}
+-- some items were given, and then a step gave up
+pub stops_giving_behind : (ended : Ended) (old mid new : Results) (items answered : List Item) (begun : Option Item)
+    → Gives old mid items → StopsGiving ended mid new answered begun
+    → StopsGiving ended old new (items ++ answered) begun
+stops_giving_behind ended old mid new items answered begun first stops =
+    let all = append_assoc items answered (option_to_list begun) in
+    let due = answered ++ option_to_list begun in
+    record {
+      history = first.history ++ stops.history;
+      asks = rw all (asks_both items due first.history stops.history first.asks stops.asks);
+      turned = turned_both old.server mid.server new.server first.history stops.history first.turned stops.turned;
+      part = out items (answers_in first.history) ++ stops.part;
+      whole = rw (out_both items answered first.history stops.history first.asks) (begins_behind _ _ _ stops.whole);
+      stops = rw (all, out_both items due first.history stops.history first.asks)
+          (stops_behind ended old.out mid.out new.out _ _ stops.part first.wrote stops.stops);
+    }

@@ -1,9 +1,13 @@
+pub mod Turning
 pub mod Writing
 pub mod Giving
 pub mod Answering
+pub mod Stands
 pub mod Ends
+pub mod Breaks
 pub mod Words
 pub mod Refusals
 pub mod Keys
+pub mod ReadValues
 pub mod Told
 pub mod Batches

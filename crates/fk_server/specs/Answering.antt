@@ -1,16 +1,18 @@
 -- The steps of a session between two reads.
-use Rattle.std.specs.Prelude.{◌≡◌, ◌⊎◌, ℕ, ◌≤◌, List, [], ◌++◌, length, Option}
+use Rattle.std.specs.Prelude.{◌≡◌, ◌⊎◌, ℕ, ◌≤◌, List, [], ◌++◌, length, Option, None, option_to_list}
 use Rattle.fk_io.specs.declared.fault.Ended.{Ended}
 use Rattle.fk_io.specs.declared.fault.Ended.TheVariants.{Closed, ReadFault, WriteFault, Spent, NoMemory}
 use Rattle.fk_io.specs.Content.{Took, Gained}
 use Rattle.fk_io.specs.Faults.{Rose}
-use Rattle.fk_job.specs.declared.job.Job.{Job}
 use Rattle.fk_frame.specs.declared.line_reader.Line.{Line}
+use Rattle.fk_model.specs.declared.entry.Entry.{Entry}
+use Rattle.fk_model.specs.declared.item.Item.{Item}
 use Rattle.fk_model.specs.declared.item.Phase.{Phase}
 use Rattle.fk_model.specs.declared.item.Phase.TheVariants.{Greeted}
-use Rattle.fk_model.specs.Payloads.{Given}
-use Rattle.fk_model.specs.Script.{AreItemsOf, kept_jobs, output, replies}
+use Rattle.fk_model.specs.Script.{AreItemsOf}
+use Rattle.fk_model.specs.Out.{asks_of, out, output}
 use Rattle.fk_model.specs.Advance.{Advances, IsIdle}
+use Rattle.fk_server.specs.Turning.{Server, Turned, answers_in, asks_in}
 use Rattle.fk_server.specs.Session.{Setting, Begins, IsPartOf, IsPrompt}
 use Rattle.fk_server.specs.declared.session.TheConstants.{TAKEN_MAX}
 
@@ -55,45 +57,51 @@ pub record StopsWriting (ended : Ended) (old new : Written) (bytes : List ℕ) :
 
 -- ---- what lines give
 
--- what an output tells, and the jobs that are kept
+-- what an output tells, and what turns are made of
 pub record Results : Type 0 where
   pub out : Written
-  pub kept : List Job
+  pub server : Server
 
-abbrev pub results : Option (List ℕ) → ℕ → List Job → Results
-results held faults kept = record { out = written held faults; kept = kept }
+abbrev pub results : Option (List ℕ) → ℕ → Server → Results
+results held faults server = record { out = written held faults; server = server }
 
--- these items were given: their replies are written and their jobs kept
-pub record Gives (old new : Results) (items : List Given) : Type 0 where
-  pub wrote : Wrote old.out new.out (replies items)
-  pub keeps : new.kept ≡ old.kept ++ kept_jobs items
+-- these items were answered: a turn was made for each ask, and the replies are written
+pub record Gives (old new : Results) (items : List Item) : Type 0 where
+  pub history : List Entry
+  pub asks : asks_in history ≡ asks_of items
+  pub turned : Turned old.server new.server history
+  pub wrote : Wrote old.out new.out (out items (answers_in history))
 
--- The jobs of the first items are kept, and of no other item, and what was written is no more than
--- the replies of the first items.
-pub record KeptSoFar (old new : List Job) (items : List Given) (part : List ℕ) : Type 0 where
-  pub front : List Given
-  pub others : List Given
-  pub whole : items ≡ front ++ others
-  pub kept : new ≡ old ++ kept_jobs front
-  pub no_more : Begins part (replies front)
-
--- the step that was to give these items gave up
-pub record StopsGiving (ended : Ended) (old new : Results) (items : List Given) : Type 0 where
+-- A step gave up: some items were answered, and perhaps one more was begun to be. Its turn was
+-- made, and of its reply a part was written.
+pub record StopsGiving (ended : Ended) (old new : Results) (answered : List Item) (begun : Option Item)
+    : Type 0 where
+  pub history : List Entry
+  pub asks : asks_in history ≡ asks_of (answered ++ option_to_list begun)
+  pub turned : Turned old.server new.server history
   pub part : List ℕ
-  pub stops : Stops ended old.out new.out (replies items) part
-  pub so_far : KeptSoFar old.kept new.kept items part
+  pub whole : Begins (out answered (answers_in history)) part
+  pub stops :
+      Stops ended old.out new.out (out (answered ++ option_to_list begun) (answers_in history)) part
 
 -- a line was answered
 pub record GivesLine (phase : Phase) (line : Line) (old new : Results) : Type 0 where
-  pub items : List Given
-  pub are : AreItemsOf phase line items
-  pub gives : Gives old new items
+  pub item : Option Item
+  pub are : AreItemsOf phase line (option_to_list item)
+  pub gives : Gives old new (option_to_list item)
 
--- the step that was to answer a line gave up, before it gave anything or in what it gives
+-- the step that was to answer an item, if there is one, gave up: before its turn was made, or
+-- behind that
+abbrev pub StopsAtItem : Ended → Results → Results → Option Item → Type 0
+StopsAtItem ended old new item =
+    StopsGiving ended old new [] None ⊎ StopsGiving ended old new [] item
+
+-- the step that was to answer a line gave up: before it was read, or at its item
 abbrev pub StopsAtLine : Ended → Phase → Line → Results → Results → Type 0
 StopsAtLine ended phase line old new =
-    StopsGiving ended old new []
-    ⊎ ((items : List Given) × AreItemsOf phase line items × StopsGiving ended old new items)
+    StopsGiving ended old new [] None
+    ⊎ ((item : Option Item) × AreItemsOf phase line (option_to_list item)
+    × StopsGiving ended old new [] item)
 
 -- ---- the lines at hand
 
@@ -108,30 +116,32 @@ standing phase lines done = record { phase = phase; lines = lines; done = done }
 
 -- some lines at hand were answered
 pub record Answers (old new : Standing) : Type 0 where
-  pub items : List Given
+  pub items : List Item
   pub advances : Advances old.phase old.lines items new.phase new.lines
   pub gives : Gives old.done new.done items
 
 -- the answering of the lines at hand stopped at one of them
 pub record StopsAnswering (ended : Ended) (old : Standing) (done : Results) : Type 0 where
-  pub items : List Given
+  pub answered : List Item
+  pub begun : Option Item
   pub phase : Phase
   pub rest : List ℕ
-  pub advances : Advances old.phase old.lines items phase rest
-  pub stops : StopsGiving ended old.done done items
+  pub advances : Advances old.phase old.lines (answered ++ option_to_list begun) phase rest
+  pub stops : StopsGiving ended old.done done answered begun
 
--- The session stands between two reads: it took these bytes, answered them all, and keeps what is to
--- be kept.
+-- The session stands between two reads: it took these bytes, and answered them all.
 pub record Stands (old now : Setting) (phase : Phase) (lines : List ℕ) (count : ℕ) : Type 0 where
   pub taken : List ℕ
-  pub items : List Given
+  pub items : List Item
+  pub history : List Entry
   pub took : Took old.left taken now.left
   pub counted : length taken ≡ count
   pub within : count ≤ TAKEN_MAX
   pub advances : Advances Greeted taken items phase lines
   pub idle : IsIdle phase lines
-  pub gained : Gained old.held (output items) now.held
-  pub keeps : now.kept ≡ old.kept ++ kept_jobs items
-  pub prompt : IsPrompt taken (output items)
+  pub asks : asks_in history ≡ asks_of items
+  pub turned : Turned old.server now.server history
+  pub gained : Gained old.held (output items (answers_in history)) now.held
+  pub prompt : IsPrompt taken history (output items (answers_in history))
   pub reads_later : old.read_faults ≤ now.read_faults
   pub writes_later : old.write_faults ≤ now.write_faults

@@ -1,5 +1,6 @@
 pub mod Words
 pub mod Verbs
 pub mod Batches
+pub mod Turning
 pub mod Session
 pub mod Answering

@@ -1,12 +1,14 @@
 -- What a session on one connection does, by how it ends.
-use Rattle.std.specs.Prelude.{◌≡◌, ◌⊎◌, ℕ, ◌<◌, ◌≤◌, ◌^◌, List, [], ◌++◌, length, Option}
+use Rattle.std.specs.Prelude.{◌≡◌, ◌⊎◌, ℕ, ◌<◌, ◌≤◌, ◌^◌, List, [], ◌++◌, length, drop, Option, option_to_list}
 use Rattle.fk_io.specs.declared.fault.Ended.{Ended}
 use Rattle.fk_io.specs.declared.fault.Ended.TheVariants.{Closed, ReadFault, WriteFault, Spent, NoMemory}
 use Rattle.fk_io.specs.Content.{Took, Gained, IsAtEnd}
 use Rattle.fk_io.specs.Faults.{Rose}
-use Rattle.fk_job.specs.declared.job.Job.{Job}
-use Rattle.fk_model.specs.Payloads.{Given}
-use Rattle.fk_model.specs.Script.{IsOver, IsScript, kept_jobs, output}
+use Rattle.fk_model.specs.declared.entry.Entry.{Entry}
+use Rattle.fk_model.specs.declared.item.Item.{Item}
+use Rattle.fk_model.specs.Script.{IsOver, IsScript, greeting}
+use Rattle.fk_model.specs.Out.{asks_of, out, output}
+use Rattle.fk_server.specs.Turning.{Server, Turned, answers_in, asks_in}
 
 -- the most bytes that one read asks for
 abbrev pub piece_length : ℕ
@@ -16,21 +18,21 @@ piece_length = 4096
 abbrev pub most_taken : ℕ
 most_taken = 2 ^ 62
 
--- what a session's input, its output and its list of kept jobs tell
+-- what a session's input and output tell, and what its turns are made of
 pub record Setting : Type 0 where
   pub left : Option (List ℕ)
   pub read_faults : ℕ
   pub held : Option (List ℕ)
   pub write_faults : ℕ
-  pub kept : List Job
+  pub server : Server
 
-abbrev pub setting : Option (List ℕ) → ℕ → Option (List ℕ) → ℕ → List Job → Setting
-setting left read_faults held write_faults kept = record {
+abbrev pub setting : Option (List ℕ) → ℕ → Option (List ℕ) → ℕ → Server → Setting
+setting left read_faults held write_faults server = record {
   left = left;
   read_faults = read_faults;
   held = held;
   write_faults = write_faults;
-  kept = kept;
+  server = server;
 }
 
 -- one list begins another, or is all of it
@@ -41,67 +43,93 @@ Begins front whole = (rest : List ℕ) × (whole ≡ front ++ rest)
 abbrev pub IsPartOf : List ℕ → List ℕ → Type 0
 IsPartOf front whole = (rest : List ℕ) × (0 < length rest) × (whole ≡ front ++ rest)
 
--- the greeting and every reply was written whole, and every job is kept
-pub record IsAnswered (old new : Setting) (items : List Given) (written : List ℕ) : Type 0 where
-  pub replies : written ≡ output items
-  pub kept : new.kept ≡ old.kept ++ kept_jobs items
+-- a turn was made for each ask, and the greeting and every reply was written whole
+pub record IsAnswered (items : List Item) (history : List Entry) (written : List ℕ) : Type 0 where
+  pub asks : asks_in history ≡ asks_of items
+  pub replies : written ≡ output items (answers_in history)
 
--- The jobs of the first lines are kept, each line's all or none, and no reply was written that isn't
--- one to them: every line whose reply was written whole is among them.
-pub record IsKeptSoFar (old new : Setting) (items : List Given) (written : List ℕ) : Type 0 where
-  pub front : List Given
-  pub others : List Given
-  pub whole : items ≡ front ++ others
-  pub kept : new.kept ≡ old.kept ++ kept_jobs front
-  pub no_more : Begins written (output front)
+-- what was written behind the greeting
+abbrev pub behind_greeting : List ℕ → List ℕ
+behind_greeting written = drop (length greeting) written
 
--- At most the last piece of the bytes taken may be without its answer, and the talk wasn't over before
--- that piece: either nothing was taken, or some bytes that don't end the talk, to which all was
--- written, and then at most a piece.
-abbrev pub IsPrompt : List ℕ → List ℕ → Type 0
-IsPrompt taken written = (taken ≡ []) ⊎ ((before piece : List ℕ) × (items : List Given)
-    × (taken ≡ before ++ piece) × (length piece ≤ piece_length) × ¬ IsOver before
-    × IsScript before items × Begins (output items) written)
+-- The first lines were answered whole, and at most one line more was begun to be. The turns made
+-- are those of their asks, one for each, and nothing was written but the replies to them. So no
+-- line whose reply was written whole is among the others.
+pub record IsAnsweredSoFar (items : List Item) (history : List Entry) (written : List ℕ) : Type 0 where
+  pub answered : List Item
+  pub begun : Option Item
+  pub others : List Item
+  pub are_all : items ≡ (answered ++ option_to_list begun) ++ others
+  pub asks : asks_in history ≡ asks_of (answered ++ option_to_list begun)
+  pub whole : Begins (out answered (answers_in history)) (behind_greeting written)
+  pub no_more : Begins written (output (answered ++ option_to_list begun) (answers_in history))
+
+-- Some bytes that don't end the talk were taken, and then at most one piece: a turn was made for
+-- each ask of those before, and all that is due to them was written.
+pub record IsBehindByPiece (taken : List ℕ) (history : List Entry) (written : List ℕ) : Type 0 where
+  pub before : List ℕ
+  pub piece : List ℕ
+  pub items : List Item
+  pub made : List Entry
+  pub later : List Entry
+  pub all : taken ≡ before ++ piece
+  pub short : length piece ≤ piece_length
+  pub going : ¬ IsOver before
+  pub script : IsScript before items
+  pub turns : history ≡ made ++ later
+  pub asks : asks_in made ≡ asks_of items
+  pub replies : Begins (output items (answers_in made)) written
+
+-- At most the last piece of the bytes taken may be without its answer, and the talk wasn't over
+-- before that piece: either nothing was taken, or the session is behind by a piece at most.
+abbrev pub IsPrompt : List ℕ → List Entry → List ℕ → Type 0
+IsPrompt taken history written = (taken ≡ []) ⊎ IsBehindByPiece taken history written
 
 -- more might have been taken, and nothing was to come, where that is told
 abbrev pub IsReadToEnd : Setting → List ℕ → Type 0
 IsReadToEnd new taken = (length taken < most_taken) × IsAtEnd new.left
 
 -- what each end says
-abbrev pub HasEnded : Ended → Setting → Setting → List ℕ → List Given → List ℕ → Type 0
+abbrev pub HasEnded :
+    Ended → Setting → Setting → List ℕ → List Item → List Entry → List ℕ → Type 0
 -- all was answered, and the client ended the talk or has no more to say
-HasEnded Closed old new taken items written =
-    IsAnswered old new items written × (IsOver taken ⊎ (¬ IsOver taken × IsReadToEnd new taken))
+HasEnded Closed old new taken items history written =
+    IsAnswered items history written
+    × (IsOver taken ⊎ (¬ IsOver taken × IsReadToEnd new taken))
 -- all was answered, and the next read failed
-HasEnded ReadFault old new taken items written =
-    IsAnswered old new items written × ¬ IsOver taken × (length taken < most_taken)
+HasEnded ReadFault old new taken items history written =
+    IsAnswered items history written × ¬ IsOver taken × (length taken < most_taken)
     × Rose old.read_faults new.read_faults
 -- a write failed: the greeting and the replies were written up to some byte, and not to their end
-HasEnded WriteFault old new taken items written =
-    IsPartOf written (output items) × IsKeptSoFar old new items written
+HasEnded WriteFault old new taken items history written =
+    IsPartOf written (output items (answers_in history)) × IsAnsweredSoFar items history written
     × Rose old.write_faults new.write_faults
 -- all was answered, and no more bytes may be read
-HasEnded Spent old new taken items written =
-    IsAnswered old new items written × ¬ IsOver taken × (length taken ≡ most_taken)
+HasEnded Spent old new taken items history written =
+    IsAnswered items history written × ¬ IsOver taken × (length taken ≡ most_taken)
 -- memory ran out: the greeting and the replies were written up to some byte
-HasEnded NoMemory old new taken items written =
-    Begins written (output items) × IsKeptSoFar old new items written
+HasEnded NoMemory old new taken items history written =
+    Begins written (output items (answers_in history)) × IsAnsweredSoFar items history written
 
--- the session took these bytes, which give these items, wrote those bytes, and ended so
+-- the session took these bytes, which give these items, had these turns made, wrote those bytes,
+-- and ended so
 pub record Serves
-    (ended : Ended) (old new : Setting) (taken : List ℕ) (items : List Given) (written : List ℕ)
+    (ended : Ended) (old new : Setting)
+    (taken : List ℕ) (items : List Item) (history : List Entry) (written : List ℕ)
     : Type 0 where
   pub took : Took old.left taken new.left
   pub script : IsScript taken items
+  pub turned : Turned old.server new.server history
   pub gained : Gained old.held written new.held
   pub within : length taken ≤ most_taken
-  pub prompt : IsPrompt taken written
-  pub outcome : HasEnded ended old new taken items written
+  pub prompt : IsPrompt taken history written
+  pub outcome : HasEnded ended old new taken items history written
 
 -- there was such a session
 abbrev pub IsSession : Ended → Setting → Setting → Type 0
 IsSession ended old new =
-    (taken : List ℕ) × (items : List Given) × (written : List ℕ) × Serves ended old new taken items written
+    (taken : List ℕ) × (items : List Item) × (history : List Entry) × (written : List ℕ)
+    × Serves ended old new taken items history written
 
 -- the exit status of a session's end
 abbrev pub status_of : Ended → ℕ

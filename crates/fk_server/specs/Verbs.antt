@@ -1,7 +1,7 @@
 -- What a line asks for, as the code tells it.
-use Rattle.fk_model.specs.Script.{Command, end, hello, push, batch, unknown}
+use Rattle.fk_model.specs.Script.{Command, end, hello, push, batch, fetch, ack, unknown}
 use Rattle.fk_server.specs.declared.command.Verb.{Verb}
-use Rattle.fk_server.specs.declared.command.Verb.TheVariants.{End, Hello, Push, Batch, Unknown}
+use Rattle.fk_server.specs.declared.command.Verb.TheVariants.{End, Hello, Push, Batch, Fetch, Ack, Unknown}
 
 -- the command of a verb
 abbrev pub command : Verb → Command
@@ -9,4 +9,6 @@ command End = end
 command Hello = hello
 command Push = push
 command Batch = batch
+command Fetch = fetch
+command Ack = ack
 command Unknown = unknown

@@ -1,4 +1,4 @@
-// A batch of jobs: those that are taken are kept, and those that aren't are told, each under its
+// A batch of jobs: those that are taken are pushed, and those that aren't are told, each under its
 // jid.
 ghost use Rattle.std.specs.Prelude.{◌≡◌, false, List, ℕ, slice_range, IfOk, OnOk};
 ghost use Rattle.std.specs.List.{AllByRecursion};
@@ -6,22 +6,21 @@ ghost use Rattle.serde_json.specs.Data.{object, put, string};
 ghost use Rattle.serde_json.specs.View.{members_view};
 ghost use Rattle.serde_json.specs.Written.{compact_text, members_have_float};
 ghost use Rattle.fk_json.specs.Members.{IsElementIn, inner_levels};
-ghost use Rattle.fk_frame.specs.Replies.{IsWellFormed};
-ghost use Rattle.fk_frame.specs.declared.reply.Reply.TheVariants.{Bulk};
-ghost use Rattle.fk_model.specs.Items.{given_of};
+ghost use Rattle.fk_model.specs.declared.ask.Ask.TheVariants.{PushBatch};
+ghost use Rattle.fk_model.specs.declared.item.Item.TheVariants.{Asks};
 ghost use Rattle.fk_model.specs.Payloads.{HasKey, IsBatch, fault_text};
 ghost use Rattle.fk_server.specs.Batches.{Grows, IsReadAs};
+ghost use Rattle.fk_server.specs.Turning.{IsInForm};
 
 use crate::key::key_of;
 use crate::refusal::{fault_text, job_or_fault, refuse};
-use fk_frame::Reply;
 use fk_job::{JobFault, Jobs};
 use fk_json::{JsonFault, Span, Text, scan_array};
-use fk_model::Item;
+use fk_model::{Ask, Item};
 use serde_json::{Map, Value};
 use std::alloc::{AllocError, Global};
 
-/// What was read of a batch: the jobs that are kept, and by key why the others aren't.
+/// What was read of a batch: the jobs that are taken, and by key why the others aren't.
 #[derive(Drop)]
 struct Batch {
     jobs: Jobs,
@@ -30,8 +29,8 @@ struct Batch {
 
 /// What a PUSHB of these arguments gives.
 pub(crate) fn push_batch(alloc: Global, arguments: &[u8]) -> Result<Item, AllocError>
-    ensures item { IfOk result (λ item. IsBatch arguments.now (given_of item)) }
-    ensures reply { IfOk result (λ item. IsWellFormed item.reply) }
+    ensures item { IfOk result (IsBatch arguments.now) }
+    ensures form { IfOk result IsInForm }
 {
     match scan_array(alloc, arguments) {
         Ok(spans) => tell(alloc, read_elements(alloc, arguments, spans.as_slice())?),
@@ -41,20 +40,18 @@ pub(crate) fn push_batch(alloc: Global, arguments: &[u8]) -> Result<Item, AllocE
     }
 }
 
-/// The answer to a batch: why its refused elements were, as an object.
+/// What a batch asks for: its jobs are pushed, and why its refused elements were is told as an object.
 fn tell(alloc: Global, batch: Batch) -> Result<Item, AllocError>
     requires { members_have_float (members_view batch.refusals.entries) ≡ false }
-    ensures item { IfOk result (λ item. given_of item ≡ record {
-      reply = Bulk (compact_text (object (members_view batch.refusals.entries)));
-      kept = batch.jobs.items;
-    }) }
-    ensures reply { IfOk result (λ item. IsWellFormed item.reply) }
+    ensures item { IfOk result (λ item. item ≡ Asks (PushBatch batch.jobs.items
+        (compact_text (object (members_view batch.refusals.entries))))) }
+    ensures form { IfOk result IsInForm }
 {
     let text = Value::Object(batch.refusals).to_string(alloc)?;
-    Ok(Item {
-        reply: Reply::Bulk(Text::copy(alloc, text.as_bytes())?),
-        jobs: batch.jobs,
-    })
+    Ok(Item::Asks(Ask::PushBatch {
+        jobs: fk_model::Batch::new(batch.jobs),
+        told: Text::copy(alloc, text.as_bytes())?,
+    }))
 }
 
 /// Reads the elements at these places, one by one.
@@ -80,7 +77,7 @@ fn piece_at(text: &[u8], span: Span) -> &[u8]
     &text[span.from..span.to]
 }
 
-/// Reads one element: its job is kept, or its fault put under its key.
+/// Reads one element: its job is taken, or its fault put under its key.
 fn read_element(alloc: Global, text: &[u8], batch: &mut Batch) -> Result<(), AllocError>
     ensures { OnOk result (Grows text.now batch.old batch.new) }
 {

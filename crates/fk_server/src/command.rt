@@ -12,6 +12,8 @@ pub(crate) enum Verb {
     Hello,
     Push,
     Batch,
+    Fetch,
+    Ack,
     Unknown,
 }
 
@@ -27,6 +29,10 @@ pub(crate) fn verb_in(line: &[u8]) -> Verb
         Verb::Push
     } else if verb == b"PUSHB".as_slice() {
         Verb::Batch
+    } else if verb == b"FETCH".as_slice() {
+        Verb::Fetch
+    } else if verb == b"ACK".as_slice() {
+        Verb::Ack
     } else {
         Verb::Unknown
     }

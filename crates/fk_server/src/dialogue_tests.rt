@@ -1,4 +1,4 @@
-use crate::tests::{END, HELLO, Outside, PLAIN, PUSH, joined, ran};
+use crate::tests::{END, HELLO, Outside, PLAIN, PUSH, expect, joined, ran};
 use std::alloc::{AllocError, Global};
 use std::process::Abort;
 use std::test::Fail;
@@ -14,9 +14,7 @@ fn expect_replies(
 ) -> Result<(), AllocError> {
     let line = vec![in alloc; b'x'; length]?;
     let ran = ran(alloc, &[first, &line, end], &PLAIN)?;
-    assert_eq!(rt; ran.status, 0);
-    let written = joined(alloc, &[b"+HI {\"v\":2}\r\n", replies])?;
-    assert_eq!(rt; ran.written.as_slice(), written.as_slice());
+    expect(rt, &ran, 0, replies, b"");
     Ok(())
 }
 
@@ -54,20 +52,13 @@ fn what_follows_a_line_too_long_is_unread(rt: HostRuntime) -> Result<(), Fail> {
     };
     let line = vec![in rt.alloc(); b'x'; 4_194_305]?;
     let ran = ran(rt.alloc(), &[HELLO, &line, b"\n", PUSH, END], &outside)?;
-    assert_eq!(rt; ran.status, 0);
-    assert_eq!(rt;
-        ran.written.as_slice(),
-        b"+HI {\"v\":2}\r\n+OK\r\n-ERR Line too long\r\n".as_slice()
-    );
-    assert_eq!(rt; ran.kept.len(), 0);
-    assert_eq!(rt;
-        ran.left.as_slice(),
-        joined(rt.alloc(), &[PUSH, END])?.as_slice()
-    );
+    let left = joined(rt.alloc(), &[PUSH, END])?;
+    expect(&rt, &ran, 0, b"+OK\r\n-ERR Line too long\r\n", &left);
     Ok(())
 }
 
-// A short jid and then a longer one, a batch with a short jid in it, and a batch of nothing.
+// A short jid and then a longer one, a batch with a short jid in it, and a batch of nothing: three
+// jobs are there to be fetched.
 #[test]
 fn short_jids_are_refused_one_by_one(rt: HostRuntime) -> Result<(), Fail> {
     let ran = ran(
@@ -83,17 +74,13 @@ fn short_jids_are_refused_one_by_one(rt: HostRuntime) -> Result<(), Fail> {
         ],
         &PLAIN,
     )?;
-    let replies = [
-        b"+HI {\"v\":2}\r\n+OK\r\n-ERR Short jid\r\n+OK\r\n".as_slice(),
-        b"$23\r\n{\"abcdefg\":\"Short jid\"}\r\n$2\r\n{}\r\n",
-    ];
-    assert_eq!(rt; ran.status, 0);
-    assert_eq!(rt;
-        ran.written.as_slice(),
-        joined(rt.alloc(), &replies)?.as_slice()
-    );
-    assert_eq!(rt; ran.kept.len(), 3);
-    let last = ran.kept.get(2).map(|job| job.jid.bytes());
-    assert_eq!(rt; last, Some(b"qrstuvwx".as_slice()));
+    let replies = joined(
+        rt.alloc(),
+        &[
+            b"+OK\r\n-ERR Short jid\r\n+OK\r\n",
+            b"$23\r\n{\"abcdefg\":\"Short jid\"}\r\n$2\r\n{}\r\n",
+        ],
+    )?;
+    expect(&rt, &ran, 0, &replies, b"");
     Ok(())
 }

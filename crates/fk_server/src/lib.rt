@@ -1,12 +1,14 @@
 //! The top calls of the job server.
 #![tactic(auto)]
 
+mod acknowledging;
 mod answer;
 mod batch;
 mod command;
 #[cfg(test)]
 mod dialogue_tests;
 mod key;
+mod names;
 #[cfg(test)]
 mod payload_tests;
 mod piped;
@@ -15,5 +17,8 @@ mod session;
 mod talk;
 #[cfg(test)]
 mod tests;
+mod turn;
+#[cfg(test)]
+mod turn_tests;
 
 pub use piped::pipe;

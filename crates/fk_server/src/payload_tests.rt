@@ -1,7 +1,11 @@
+ghost use Rattle.fk_frame.specs.Replies.{IsWellFormed};
+
 use crate::talk::{next_phase, read_item};
-use fk_frame::write_reply;
+use crate::tests::joined;
+use fk_frame::{Reply, write_reply};
+use fk_job::{Job, Jobs};
 use fk_json::Text;
-use fk_model::Phase;
+use fk_model::{Ask, Item, Phase};
 use std::alloc::{AllocError, Global};
 use std::process::Abort;
 use std::test::Fail;
@@ -9,8 +13,8 @@ use std::test::Fail;
 /// A job as it is sent.
 const MAIL: &[u8] = b"{\"jid\":\"abcdefgh\",\"jobtype\":\"Mail\",\"args\":[1,2.50]}";
 
-/// What a talk gave: the replies' bytes, and the jids of the jobs that are kept, each with a space
-/// behind it.
+/// What a talk gave: the bytes of its own replies and of what batches are told, and the jids of the
+/// jobs that are to be pushed, each with a space behind it.
 #[derive(Drop)]
 struct Given {
     replies: Text,
@@ -24,17 +28,49 @@ fn answer(
     line: &[u8],
     given: &mut Given,
 ) -> Result<Phase, AllocError> {
-    if let Some(item) = read_item(alloc, phase, line)? {
-        let reply = write_reply(alloc, &item.reply)?;
-        given.replies.push_bytes(reply.bytes())?;
-        for at in 0..item.jobs.len() {
-            if let Some(job) = item.jobs.get(at) {
-                given.jids.push_bytes(job.jid.bytes())?;
-                given.jids.push_bytes(b" ")?;
-            }
-        }
+    match read_item(alloc, phase, line)? {
+        Some(Item::Own(reply)) => say(alloc, &reply, given)?,
+        Some(Item::Asks(ask)) => note(alloc, ask, given)?,
+        None => (),
     }
     Ok(next_phase(phase, line))
+}
+
+/// Adds a reply.
+fn say(alloc: Global, reply: &Reply, given: &mut Given) -> Result<(), AllocError>
+    requires { IsWellFormed reply.now }
+{
+    let bytes = write_reply(alloc, reply)?;
+    given.replies.push_bytes(bytes.bytes())
+}
+
+/// Adds what a turn is asked for: a job is answered by OK, and a batch by what it is told.
+fn note(alloc: Global, ask: Ask, given: &mut Given) -> Result<(), AllocError> {
+    match ask {
+        Ask::Push { job } => {
+            note_job(&job, given)?;
+            given.replies.push_bytes(b"+OK\r\n")
+        }
+        Ask::PushBatch { jobs, told } => {
+            note_jobs(jobs.jobs(), given)?;
+            say(alloc, &Reply::Bulk(told), given)
+        }
+        _ => Ok(()),
+    }
+}
+
+fn note_jobs(jobs: &Jobs, given: &mut Given) -> Result<(), AllocError> {
+    for at in 0..jobs.len() {
+        if let Some(job) = jobs.get(at) {
+            note_job(job, given)?;
+        }
+    }
+    Ok(())
+}
+
+fn note_job(job: &Job, given: &mut Given) -> Result<(), AllocError> {
+    given.jids.push_bytes(job.jid.bytes())?;
+    given.jids.push_bytes(b" ")
 }
 
 /// Answers a HELLO and one line, and expects this reply to the line, and these jids.
@@ -45,26 +81,21 @@ fn expect(
     reply: &[u8],
     jids: &[u8],
 ) -> Result<(), AllocError> {
-    let mut whole = Text::fixed(alloc, b"");
-    for part in line {
-        whole.push_bytes(part)?;
-    }
+    let whole = joined(alloc, line)?;
     let mut given = Given {
         replies: Text::fixed(alloc, b""),
         jids: Text::fixed(alloc, b""),
     };
     let phase = answer(alloc, Phase::Greeted, b"HELLO {\"v\":2}", &mut given)?;
-    answer(alloc, phase, whole.bytes(), &mut given)?;
-    let mut wanted = Text::fixed(alloc, b"+OK\r\n");
-    wanted.push_bytes(reply)?;
-    wanted.push_bytes(b"\r\n")?;
-    assert_eq!(rt; given.replies.bytes(), wanted.bytes());
+    answer(alloc, phase, &whole, &mut given)?;
+    let wanted = joined(alloc, &[b"+OK\r\n", reply, b"\r\n"])?;
+    assert_eq!(rt; given.replies.bytes(), wanted.as_slice());
     assert_eq!(rt; given.jids.bytes(), jids);
     Ok(())
 }
 
 #[test]
-fn a_batch_keeps_its_jobs_and_tells_the_others(rt: HostRuntime) -> Result<(), Fail> {
+fn a_batch_asks_for_its_jobs_and_tells_the_others(rt: HostRuntime) -> Result<(), Fail> {
     let line = [
         b"PUSHB [".as_slice(),
         MAIL,
@@ -153,7 +184,7 @@ fn each_refused_element_stands_under_its_jid(rt: HostRuntime) -> Result<(), Fail
 }
 
 #[test]
-fn a_push_keeps_its_job(rt: HostRuntime) -> Result<(), Fail> {
+fn a_push_asks_for_its_job(rt: HostRuntime) -> Result<(), Fail> {
     expect(&rt, rt.alloc(), &[b"PUSH ", MAIL], b"+OK", b"abcdefgh ")?;
     Ok(())
 }

@@ -1,52 +1,44 @@
-// Items that keep no job, and the words of a job's faults.
+// Replies of the script's own, and the words of a job's faults.
 ghost use Rattle.std.specs.Prelude.{◌≡◌, IfOk, MatchResult};
-ghost use Rattle.fk_frame.specs.Replies.{IsOneLine, IsWellFormed};
+ghost use Rattle.fk_frame.specs.Replies.{IsOneLine};
 ghost use Rattle.fk_frame.specs.declared.reply.Reply.TheVariants.{Error};
 ghost use Rattle.fk_job.specs.JobText.{HasFault, IsJobOf};
-ghost use Rattle.fk_model.specs.Items.{given_of};
-ghost use Rattle.fk_model.specs.Payloads.{fault_text, ok, refused, said};
+ghost use Rattle.fk_model.specs.declared.item.Item.TheVariants.{Own};
+ghost use Rattle.fk_model.specs.Payloads.{fault_text, ok, refused};
+ghost use Rattle.fk_server.specs.Turning.{IsInForm};
 
 use fk_frame::Reply;
-use fk_job::{Job, JobFault, Jobs, read_job};
+use fk_job::{Job, JobFault, read_job};
 use fk_json::Text;
 use fk_model::Item;
 use std::alloc::{AllocError, Global};
 
-/// The reply `+OK`, with nothing that is kept.
+/// The reply `+OK`.
 pub(crate) fn accept(alloc: Global) -> Item
-    ensures item { given_of result ≡ ok }
-    ensures reply { IsWellFormed result.reply }
+    ensures item { result ≡ ok }
+    ensures form { IsInForm result }
 {
-    Item {
-        reply: Reply::Status(Text::fixed(alloc, b"OK")),
-        jobs: Jobs::new(alloc),
-    }
+    Item::Own(Reply::Status(Text::fixed(alloc, b"OK")))
 }
 
-/// An error reply, with nothing that is kept.
+/// An error reply.
 pub(crate) fn refuse(alloc: Global, text: &'static [u8]) -> Item
     requires { IsOneLine text.now }
-    ensures item { given_of result ≡ said (Error text.now) }
-    ensures reply { IsWellFormed result.reply }
+    ensures item { result ≡ Own (Error text.now) }
+    ensures form { IsInForm result }
 {
-    Item {
-        reply: Reply::Error(Text::fixed(alloc, text)),
-        jobs: Jobs::new(alloc),
-    }
+    Item::Own(Reply::Error(Text::fixed(alloc, text)))
 }
 
-/// An error reply that tells a job's fault, with nothing that is kept.
+/// An error reply that tells a job's fault.
 #[tactic(auto, using(crate::proofs::Refusals::refused_in_one_line))]
 pub(crate) fn refuse_fault(alloc: Global, fault: &JobFault) -> Result<Item, AllocError>
-    ensures item { IfOk result (λ item. given_of item ≡ refused (fault_text fault.now)) }
-    ensures reply { IfOk result (λ item. IsWellFormed item.reply) }
+    ensures item { IfOk result (λ item. item ≡ refused (fault_text fault.now)) }
+    ensures form { IfOk result IsInForm }
 {
     let mut text = Text::fixed(alloc, b"ERR ");
     text.push_bytes(fault_text(fault).as_bytes())?;
-    Ok(Item {
-        reply: Reply::Error(text),
-        jobs: Jobs::new(alloc),
-    })
+    Ok(Item::Own(Reply::Error(text)))
 }
 
 /// Why a text is no job, in the words of an error.

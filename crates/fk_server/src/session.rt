@@ -3,13 +3,15 @@ ghost use Rattle.fk_io.specs.declared.fault.Ended.TheVariants.{ReadFault};
 ghost use Rattle.fk_io.specs.Content.{Took, IsAtEnd};
 ghost use Rattle.fk_io.specs.Faults.{Rose};
 ghost use Rattle.fk_model.specs.Advance.{IsIdle};
+ghost use Rattle.fk_model.specs.Between.{IsAboveAll};
+ghost use Rattle.fk_server.specs.Turning.{server};
 ghost use Rattle.fk_server.specs.Session.{Setting, setting, IsSession};
 ghost use Rattle.fk_server.specs.Answering.{results, standing, Answers, StopsAnswering, Stands};
 
 use crate::answer::{serve_lines, write_all};
+use fk_core::Tables;
 use fk_frame::LineReader;
-use fk_io::{Ended, Sink, Source};
-use fk_job::Jobs;
+use fk_io::{Clock, Dice, Ended, Sink, Source};
 use fk_model::Phase;
 use std::alloc::Global;
 
@@ -35,17 +37,23 @@ struct Session {
 
 /// Serves one connection: the greeting, and then for each piece that is read the replies that are
 /// due behind it, before the next is read.
-pub fn serve<S: Source, K: Sink>(
+pub fn serve<S: Source, K: Sink, C: Clock, J: Dice>(
     alloc: Global,
     input: &mut S,
     output: &mut K,
-    kept: &mut Jobs,
+    tables: &mut Tables,
+    clock: &mut C,
+    dice: &mut J,
 ) -> Ended
-    ensures { IsSession result
+    requires above { IsAboveAll tables.old.kept.next tables.old.kept.rows }
+    ensures session { IsSession result
         (setting (S.left input.old) (S.read_faults input.old)
-        (K.held output.old) (K.write_faults output.old) kept.old.items)
+        (K.held output.old) (K.write_faults output.old)
+        (server tables.old.kept (C.moments clock.old) (J.words dice.old)))
         (setting (S.left input.new) (S.read_faults input.new)
-        (K.held output.new) (K.write_faults output.new) kept.new.items) }
+        (K.held output.new) (K.write_faults output.new)
+        (server tables.new.kept (C.moments clock.new) (J.words dice.new))) }
+    ensures above { IsAboveAll tables.new.kept.next tables.new.kept.rows }
 {
     if let Err(ended) = write_all(output, GREETING) {
         return ended;
@@ -56,7 +64,7 @@ pub fn serve<S: Source, K: Sink>(
         taken: 0,
     };
     'pieces: while session.phase != Phase::Over {
-        if let Err(ended) = serve_piece(alloc, &mut session, input, output, kept) {
+        if let Err(ended) = serve_piece(alloc, &mut session, input, output, tables, clock, dice) {
             return ended;
         }
     }
@@ -64,28 +72,35 @@ pub fn serve<S: Source, K: Sink>(
 }
 
 /// Reads one piece and answers the lines that end in it. The input's end is `Closed`.
-fn serve_piece<S: Source, K: Sink>(
+fn serve_piece<S: Source, K: Sink, C: Clock, J: Dice>(
     alloc: Global,
     session: &mut Session,
     input: &mut S,
     output: &mut K,
-    kept: &mut Jobs,
+    tables: &mut Tables,
+    clock: &mut C,
+    dice: &mut J,
 ) -> Result<(), Ended>
-    requires { session.old.phase ≢ Phase.Over }
+    requires above { IsAboveAll tables.old.kept.next tables.old.kept.rows }
+    requires going { session.old.phase ≢ Phase.Over }
     ensures stands { (first : Setting) → Stands first
         (setting (S.left input.old) (S.read_faults input.old)
-        (K.held output.old) (K.write_faults output.old) kept.old.items)
+        (K.held output.old) (K.write_faults output.old)
+        (server tables.old.kept (C.moments clock.old) (J.words dice.old)))
         session.old.phase session.old.lines session.old.taken
         → MatchResult result
         (λ _. Stands first
         (setting (S.left input.new) (S.read_faults input.new)
-        (K.held output.new) (K.write_faults output.new) kept.new.items)
+        (K.held output.new) (K.write_faults output.new)
+        (server tables.new.kept (C.moments clock.new) (J.words dice.new)))
         session.new.phase session.new.lines session.new.taken)
         (λ ended. IsSession ended first
         (setting (S.left input.new) (S.read_faults input.new)
-        (K.held output.new) (K.write_faults output.new) kept.new.items)) }
+        (K.held output.new) (K.write_faults output.new)
+        (server tables.new.kept (C.moments clock.new) (J.words dice.new)))) }
     ensures goes_on { OnOk result (session.old.taken < session.new.taken) }
     ensures within { OnOk result (session.new.taken ≤ TAKEN_MAX) }
+    ensures above { IsAboveAll tables.new.kept.next tables.new.kept.rows }
 {
     if session.taken >= TAKEN_MAX {
         return Err(Ended::Spent);
@@ -95,7 +110,7 @@ fn serve_piece<S: Source, K: Sink>(
     if count == 0 {
         return Err(Ended::Closed);
     }
-    answer_piece(alloc, session, &piece[..count], output, kept)
+    answer_piece(alloc, session, &piece[..count], output, tables, clock, dice)
 }
 
 /// Reads the next bytes into the piece: at most as many as it holds, and as there is room for.
@@ -119,27 +134,43 @@ fn read_piece<S: Source>(input: &mut S, piece: &mut [u8], room: u64) -> Result<u
 }
 
 /// Takes in one piece and answers the lines that end in it.
-fn answer_piece<K: Sink>(
+fn answer_piece<K: Sink, C: Clock, J: Dice>(
     alloc: Global,
     session: &mut Session,
     piece: &[u8],
     output: &mut K,
-    kept: &mut Jobs,
+    tables: &mut Tables,
+    clock: &mut C,
+    dice: &mut J,
 ) -> Result<(), Ended>
-    requires { session.old.taken + length piece.now ≤ TAKEN_MAX }
+    requires above { IsAboveAll tables.old.kept.next tables.old.kept.rows }
+    requires room { session.old.taken + length piece.now ≤ TAKEN_MAX }
     ensures ok { OnOk result (Answers
         (standing session.old.phase (session.old.lines ++ piece.now)
-        (results (K.held output.old) (K.write_faults output.old) kept.old.items))
+        (results (K.held output.old) (K.write_faults output.old)
+        (server tables.old.kept (C.moments clock.old) (J.words dice.old))))
         (standing session.new.phase session.new.lines
-        (results (K.held output.new) (K.write_faults output.new) kept.new.items))) }
+        (results (K.held output.new) (K.write_faults output.new)
+        (server tables.new.kept (C.moments clock.new) (J.words dice.new))))) }
     ensures idle { OnOk result (IsIdle session.new.phase session.new.lines) }
     ensures counted { OnOk result (session.new.taken ≡ session.old.taken + length piece.now) }
     ensures err { IfErr result (λ ended. StopsAnswering ended
         (standing session.old.phase (session.old.lines ++ piece.now)
-        (results (K.held output.old) (K.write_faults output.old) kept.old.items))
-        (results (K.held output.new) (K.write_faults output.new) kept.new.items)) }
+        (results (K.held output.old) (K.write_faults output.old)
+        (server tables.old.kept (C.moments clock.old) (J.words dice.old))))
+        (results (K.held output.new) (K.write_faults output.new)
+        (server tables.new.kept (C.moments clock.new) (J.words dice.new)))) }
+    ensures above { IsAboveAll tables.new.kept.next tables.new.kept.rows }
 {
     session.lines.feed(piece)?;
     session.taken += piece.len() as u64;
-    serve_lines(alloc, &mut session.phase, &mut session.lines, output, kept)
+    serve_lines(
+        alloc,
+        &mut session.phase,
+        &mut session.lines,
+        output,
+        tables,
+        clock,
+        dice,
+    )
 }

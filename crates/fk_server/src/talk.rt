@@ -1,27 +1,25 @@
-ghost use Rattle.std.specs.Prelude.{◌≡◌, [], ◌∷◌, codes, IfOk, IfSome};
+ghost use Rattle.std.specs.Prelude.{◌≡◌, option_to_list, IfOk, IfSome};
 ghost use Rattle.fk_frame.specs.declared.line_reader.Line.TheVariants.{Whole};
-ghost use Rattle.fk_frame.specs.declared.reply.Reply.TheVariants.{Status};
-ghost use Rattle.fk_frame.specs.Replies.{IsWellFormed};
 ghost use Rattle.fk_model.specs.Commands.{arguments};
-ghost use Rattle.fk_model.specs.Items.{given_items, given_of};
-ghost use Rattle.fk_model.specs.Payloads.{IsPushed};
+ghost use Rattle.fk_model.specs.Payloads.{IsFetched, IsPushed};
 ghost use Rattle.fk_model.specs.Script.{AreGiven, AreItemsOf, handshake_items, phase_after, too_long};
+ghost use Rattle.fk_server.specs.Turning.{IsInForm};
 ghost use Rattle.fk_server.specs.Verbs.{command};
 
+use crate::acknowledging::acknowledge;
 use crate::batch::push_batch;
 use crate::command::{Verb, arguments_of, says_hello, verb_in, verb_of};
+use crate::names::queue_names;
 use crate::refusal::{accept, job_or_fault, refuse, refuse_fault};
-use fk_frame::Reply;
-use fk_job::{Job, Jobs};
 use fk_json::Text;
-use fk_model::{Item, Phase};
+use fk_model::{Ask, Item, Phase};
 use std::alloc::{AllocError, Global};
 
 /// What a whole line of a talk gives, if it gives anything.
 #[tactic(auto, unfolding(fk_model::specs::Script::AreItemsOf))]
 pub fn read_item(alloc: Global, phase: Phase, line: &[u8]) -> Result<Option<Item>, AllocError>
-    ensures items { IfOk result (λ item. AreItemsOf phase (Whole line.now) (given_items item)) }
-    ensures reply { IfOk result (λ item. IfSome item (λ item. IsWellFormed item.reply)) }
+    ensures items { IfOk result (λ item. AreItemsOf phase (Whole line.now) (option_to_list item)) }
+    ensures form { IfOk result (λ item. IfSome item IsInForm) }
 {
     let verb = verb_in(line);
     match phase {
@@ -49,63 +47,62 @@ pub fn next_phase(phase: Phase, line: &[u8]) -> Phase
 
 /// What a line that is too long gives, before and behind a HELLO.
 pub fn refuse_long_line(alloc: Global) -> Item
-    ensures item { given_of result ≡ too_long }
-    ensures reply { IsWellFormed result.reply }
+    ensures item { result ≡ too_long }
+    ensures form { IsInForm result }
 {
     refuse(alloc, b"ERR Line too long")
 }
 
 /// What a line gives before a HELLO was accepted, if it gives anything.
 fn before_hello(alloc: Global, verb: Verb, line: &[u8]) -> Option<Item>
-    ensures item { given_items result ≡ handshake_items line.now (command verb) }
-    ensures reply { IfSome result (λ item. IsWellFormed item.reply) }
+    ensures item { option_to_list result ≡ handshake_items line.now (command verb) }
+    ensures form { IfSome result IsInForm }
 {
     match verb {
         Verb::End => None,
         Verb::Hello if says_hello(line) => Some(accept(alloc)),
         Verb::Hello => Some(refuse(alloc, b"ERR Not served yet")),
-        Verb::Push | Verb::Batch | Verb::Unknown => Some(refuse(alloc, b"ERR HELLO first")),
+        Verb::Push | Verb::Batch | Verb::Fetch | Verb::Ack | Verb::Unknown => {
+            Some(refuse(alloc, b"ERR HELLO first"))
+        }
     }
 }
 
 /// What a line gives behind an accepted HELLO, if it gives anything.
 fn behind_hello(alloc: Global, verb: Verb, line: &[u8]) -> Result<Option<Item>, AllocError>
     ensures item { IfOk result
-        (λ item. AreGiven (command verb) (arguments line.now) (given_items item)) }
-    ensures reply { IfOk result (λ item. IfSome item (λ item. IsWellFormed item.reply)) }
+        (λ item. AreGiven (command verb) (arguments line.now) (option_to_list item)) }
+    ensures form { IfOk result (λ item. IfSome item IsInForm) }
 {
     match verb {
         Verb::End => Ok(None),
         Verb::Hello => Ok(Some(refuse(alloc, b"ERR Not served yet"))),
         Verb::Push => Ok(Some(push(alloc, arguments_of(line))?)),
         Verb::Batch => Ok(Some(push_batch(alloc, arguments_of(line))?)),
+        Verb::Fetch => Ok(Some(fetch(alloc, arguments_of(line))?)),
+        Verb::Ack => Ok(Some(acknowledge(alloc, arguments_of(line))?)),
         Verb::Unknown => Ok(Some(refuse(alloc, b"ERR Unknown command"))),
     }
 }
 
 /// What a PUSH of these arguments gives.
 fn push(alloc: Global, arguments: &[u8]) -> Result<Item, AllocError>
-    ensures item { IfOk result (λ item. IsPushed arguments.now (given_of item)) }
-    ensures reply { IfOk result (λ item. IsWellFormed item.reply) }
+    ensures item { IfOk result (IsPushed arguments.now) }
+    ensures form { IfOk result IsInForm }
 {
     match job_or_fault(alloc, arguments)? {
-        Ok(job) => keep_job(alloc, job),
+        Ok(job) => Ok(Item::Asks(Ask::Push { job })),
         Err(fault) => refuse_fault(alloc, &fault),
     }
 }
 
-/// The reply `+OK`, with a job that is kept.
-fn keep_job(alloc: Global, job: Job) -> Result<Item, AllocError>
-    ensures item { IfOk result (λ item. given_of item ≡ record {
-      reply = Status (codes "OK");
-      kept = job ∷ [];
-    }) }
-    ensures reply { IfOk result (λ item. IsWellFormed item.reply) }
+/// What a FETCH of these arguments gives. Workers have no names yet.
+fn fetch(alloc: Global, arguments: &[u8]) -> Result<Item, AllocError>
+    ensures item { IfOk result (IsFetched arguments.now) }
+    ensures form { IfOk result IsInForm }
 {
-    let mut jobs = Jobs::new(alloc);
-    jobs.push(job)?;
-    Ok(Item {
-        reply: Reply::Status(Text::fixed(alloc, b"OK")),
-        jobs,
-    })
+    Ok(Item::Asks(Ask::Fetch {
+        wid: Text::fixed(alloc, b""),
+        queues: queue_names(alloc, arguments)?,
+    }))
 }

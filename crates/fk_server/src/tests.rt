@@ -1,18 +1,19 @@
 ghost use Rattle.std.specs.Prelude.{Some};
+ghost use Rattle.fk_model.specs.Between.{IsAboveAll};
 
 use crate::pipe;
-use fk_io::{ByteSink, ByteSource, Failed, Sink, Source};
-use fk_job::Jobs;
+use fk_core::Tables;
+use fk_io::{ByteSink, ByteSource, Failed, ListClock, ListDice, Sink, Source};
 use std::alloc::{AllocError, Global};
 use std::process::Abort;
 use std::test::Fail;
+
+const GREETING: &[u8] = b"+HI {\"v\":2}\r\n";
 
 pub(crate) const HELLO: &[u8] = b"HELLO {\"v\":2}\r\n";
 
 pub(crate) const PUSH: &[u8] =
     b"PUSH {\"jid\":\"abcdefgh\",\"jobtype\":\"Mail\",\"args\":[1,2.50]}\r\n";
-
-const JID: &[u8] = b"abcdefgh";
 
 pub(crate) const END: &[u8] = b"END\r\n";
 
@@ -36,7 +37,6 @@ pub(crate) const PLAIN: Outside<'static> = Outside {
 pub(crate) struct Outcome {
     pub status: u8,
     pub written: Vec<u8>,
-    pub kept: Jobs,
     pub left: Vec<u8>,
 }
 
@@ -48,22 +48,58 @@ pub(crate) fn joined(alloc: Global, parts: &[&[u8]]) -> Result<Vec<u8>, AllocErr
     Ok(whole)
 }
 
+/// The tables of a new server.
+pub(crate) fn new_tables(alloc: Global) -> Tables
+    ensures { IsAboveAll result.kept.next result.kept.rows }
+{
+    Tables::empty(alloc)
+}
+
+/// Serves one connection by these words, over lent tables, at 2023-11-14T22:13:20Z.
+fn serve<S: Source, K: Sink>(
+    alloc: Global,
+    words: &[&str],
+    input: &mut S,
+    output: &mut K,
+    tables: &mut Tables,
+) -> Result<u8, AllocError>
+    requires above { IsAboveAll tables.old.kept.next tables.old.kept.rows }
+    ensures above { IsAboveAll tables.new.kept.next tables.new.kept.rows }
+{
+    let mut clock = ListClock::new(alloc, &[1_700_000_000_000])?;
+    let mut dice = ListDice::new(alloc, &[0])?;
+    Ok(pipe(alloc, words, input, output, tables, &mut clock, &mut dice))
+}
+
+/// Serves one connection over lent tables.
+pub(crate) fn ran_over(
+    alloc: Global,
+    tables: &mut Tables,
+    parts: &[&[u8]],
+    outside: &Outside,
+) -> Result<Outcome, AllocError>
+    requires above { IsAboveAll tables.old.kept.next tables.old.kept.rows }
+    ensures above { IsAboveAll tables.new.kept.next tables.new.kept.rows }
+{
+    let bytes = joined(alloc, parts)?;
+    let mut input = ByteSource::new(alloc, &bytes, outside.cuts, outside.failing_reads)?;
+    let mut output = ByteSink::new(alloc, outside.failing_writes)?;
+    let status = serve(alloc, &["pipe"], &mut input, &mut output, tables)?;
+    Ok(Outcome {
+        status,
+        written: Vec::from_slice(alloc, output.bytes())?,
+        left: left_of(alloc, &mut input)?,
+    })
+}
+
+/// Serves one connection over the tables of a new server.
 pub(crate) fn ran(
     alloc: Global,
     parts: &[&[u8]],
     outside: &Outside,
 ) -> Result<Outcome, AllocError> {
-    let bytes = joined(alloc, parts)?;
-    let mut input = ByteSource::new(alloc, &bytes, outside.cuts, outside.failing_reads)?;
-    let mut output = ByteSink::new(alloc, outside.failing_writes)?;
-    let mut kept = Jobs::new(alloc);
-    let status = pipe(alloc, &["pipe"], &mut input, &mut output, &mut kept);
-    Ok(Outcome {
-        status,
-        written: Vec::from_slice(alloc, output.bytes())?,
-        kept,
-        left: left_of(alloc, &mut input)?,
-    })
+    let mut tables = new_tables(alloc);
+    ran_over(alloc, &mut tables, parts, outside)
 }
 
 /// What a source still has.
@@ -80,37 +116,27 @@ fn left_of(alloc: Global, source: &mut ByteSource) -> Result<Vec<u8>, AllocError
     Ok(left)
 }
 
-#[test]
-fn an_empty_input_is_greeted(rt: HostRuntime) -> Result<(), Fail> {
-    let ran = ran(rt.alloc(), &[], &PLAIN)?;
-    assert_eq!(rt; ran.status, 0);
-    assert_eq!(rt; ran.written.as_slice(), b"+HI {\"v\":2}\r\n".as_slice());
-    assert_eq!(rt; ran.kept.len(), 0);
-    Ok(())
+/// Serves one connection, and expects this status, these replies behind the greeting and these
+/// bytes unread.
+pub(crate) fn expect(rt: &impl Abort, ran: &Outcome, status: u8, replies: &[u8], left: &[u8]) {
+    assert_eq!(rt; ran.status, status);
+    let (greeting, behind) = ran.written.split_at(ran.written.len().min(GREETING.len()));
+    assert_eq!(rt; greeting, GREETING);
+    assert_eq!(rt; behind, replies);
+    assert_eq!(rt; ran.left.as_slice(), left);
 }
 
 #[test]
-fn a_push_is_answered_and_end_ends(rt: HostRuntime) -> Result<(), Fail> {
-    let ran = ran(rt.alloc(), &[HELLO, PUSH, END, PUSH], &PLAIN)?;
-    assert_eq!(rt; ran.status, 0);
-    assert_eq!(rt;
-        ran.written.as_slice(),
-        b"+HI {\"v\":2}\r\n+OK\r\n+OK\r\n".as_slice()
-    );
-    assert_eq!(rt; ran.kept.len(), 1);
-    assert_eq!(rt; ran.kept.get(0).map(|job| job.jid.bytes()), Some(JID));
+fn an_empty_input_is_greeted(rt: HostRuntime) -> Result<(), Fail> {
+    let ran = ran(rt.alloc(), &[], &PLAIN)?;
+    expect(&rt, &ran, 0, b"", b"");
     Ok(())
 }
 
 #[test]
 fn nothing_behind_end_is_answered(rt: HostRuntime) -> Result<(), Fail> {
-    let ran = ran(rt.alloc(), &[HELLO, END, PUSH], &PLAIN)?;
-    assert_eq!(rt; ran.status, 0);
-    assert_eq!(rt;
-        ran.written.as_slice(),
-        b"+HI {\"v\":2}\r\n+OK\r\n".as_slice()
-    );
-    assert_eq!(rt; ran.kept.len(), 0);
+    let ran = ran(rt.alloc(), &[HELLO, PUSH, END, PUSH], &PLAIN)?;
+    expect(&rt, &ran, 0, b"+OK\r\n+OK\r\n", b"");
     Ok(())
 }
 
@@ -124,13 +150,7 @@ fn pieces_of_one_byte_with_line_feeds_alone_give_the_same(rt: HostRuntime) -> Re
         ..PLAIN
     };
     let ran = ran(rt.alloc(), &[hello, push, b"END\nDANCE\n"], &outside)?;
-    assert_eq!(rt; ran.status, 0);
-    assert_eq!(rt;
-        ran.written.as_slice(),
-        b"+HI {\"v\":2}\r\n+OK\r\n+OK\r\n".as_slice()
-    );
-    assert_eq!(rt; ran.kept.get(0).map(|job| job.jid.bytes()), Some(JID));
-    assert_eq!(rt; ran.left.as_slice(), b"DANCE\n".as_slice());
+    expect(&rt, &ran, 0, b"+OK\r\n+OK\r\n", b"DANCE\n");
     Ok(())
 }
 
@@ -138,41 +158,28 @@ fn pieces_of_one_byte_with_line_feeds_alone_give_the_same(rt: HostRuntime) -> Re
 fn each_line_has_its_reply(rt: HostRuntime) -> Result<(), Fail> {
     let table = [
         (PUSH, b"-ERR HELLO first\r\n".as_slice()),
-        (
-            b"HELLO {\"v\":3}\r\n".as_slice(),
-            b"-ERR Not served yet\r\n".as_slice(),
-        ),
-        (HELLO, b"+OK\r\n".as_slice()),
-        (
-            b"DANCE\r\n".as_slice(),
-            b"-ERR Unknown command\r\n".as_slice(),
-        ),
-        (b"\r\n".as_slice(), b"-ERR Unknown command\r\n".as_slice()),
-        (
-            b"push {}\r\n".as_slice(),
-            b"-ERR Unknown command\r\n".as_slice(),
-        ),
-        (
-            b"PUSH\t{}\r\n".as_slice(),
-            b"-ERR Unknown command\r\n".as_slice(),
-        ),
-        (HELLO, b"-ERR Not served yet\r\n".as_slice()),
-        (b"PUSH {}\r\n".as_slice(), b"-ERR No jid\r\n".as_slice()),
-        (PUSH, b"+OK\r\n".as_slice()),
-        (b"END now\r\n".as_slice(), b"".as_slice()),
-        (PUSH, b"".as_slice()),
-        (b"unfinished".as_slice(), b"".as_slice()),
+        (b"FETCH\r\n", b"-ERR HELLO first\r\n"),
+        (b"HELLO {\"v\":3}\r\n", b"-ERR Not served yet\r\n"),
+        (HELLO, b"+OK\r\n"),
+        (b"DANCE\r\n", b"-ERR Unknown command\r\n"),
+        (b"\r\n", b"-ERR Unknown command\r\n"),
+        (b"push {}\r\n", b"-ERR Unknown command\r\n"),
+        (b"PUSH\t{}\r\n", b"-ERR Unknown command\r\n"),
+        (HELLO, b"-ERR Not served yet\r\n"),
+        (b"PUSH {}\r\n", b"-ERR No jid\r\n"),
+        (PUSH, b"+OK\r\n"),
+        (b"END now\r\n", b""),
+        (PUSH, b""),
+        (b"unfinished", b""),
     ];
     let mut input = Vec::new(rt.alloc());
-    let mut wanted = Vec::from_slice(rt.alloc(), b"+HI {\"v\":2}\r\n")?;
+    let mut wanted = Vec::new(rt.alloc());
     for (line, reply) in table {
         input.extend_from_slice(line)?;
         wanted.extend_from_slice(reply)?;
     }
     let ran = ran(rt.alloc(), &[&input], &PLAIN)?;
-    assert_eq!(rt; ran.status, 0);
-    assert_eq!(rt; ran.written.as_slice(), wanted.as_slice());
-    assert_eq!(rt; ran.kept.len(), 1);
+    expect(&rt, &ran, 0, &wanted, b"");
     Ok(())
 }
 
@@ -184,11 +191,8 @@ fn a_read_that_fails_ends_behind_the_replies_that_are_due(rt: HostRuntime) -> Re
         ..PLAIN
     };
     let ran = ran(rt.alloc(), &[HELLO, PUSH, END], &outside)?;
-    assert_eq!(rt; ran.status, 3);
-    assert_eq!(rt;
-        ran.written.as_slice(),
-        b"+HI {\"v\":2}\r\n+OK\r\n".as_slice()
-    );
+    let left = joined(rt.alloc(), &[PUSH, END])?;
+    expect(&rt, &ran, 3, b"+OK\r\n", &left);
     Ok(())
 }
 
@@ -200,12 +204,8 @@ fn a_reply_is_written_before_the_next_piece_is_read(rt: HostRuntime) -> Result<(
         ..PLAIN
     };
     let ran = ran(rt.alloc(), &[HELLO, PUSH, END], &outside)?;
-    assert_eq!(rt; ran.status, 4);
-    assert_eq!(rt; ran.written.as_slice(), b"+HI {\"v\":2}\r\n".as_slice());
-    assert_eq!(rt;
-        ran.left.as_slice(),
-        joined(rt.alloc(), &[PUSH, END])?.as_slice()
-    );
+    let left = joined(rt.alloc(), &[PUSH, END])?;
+    expect(&rt, &ran, 4, b"", &left);
     Ok(())
 }
 
@@ -225,19 +225,25 @@ impl Sink for Narrow {
     }
 }
 
+/// Serves a connection whose write with this number fails, and gives the status and the bytes.
+fn ran_narrow(alloc: Global, failing: u64) -> Result<(u8, Vec<u8>), AllocError> {
+    let bytes = joined(alloc, &[HELLO, PUSH, END])?;
+    let mut input = ByteSource::new(alloc, &bytes, &[], &[])?;
+    let mut output = Narrow {
+        to: ByteSink::new(alloc, &[failing])?,
+    };
+    let mut tables = new_tables(alloc);
+    let status = serve(alloc, &["pipe"], &mut input, &mut output, &mut tables)?;
+    Ok((status, Vec::from_slice(alloc, output.to.bytes())?))
+}
+
 #[test]
 fn a_write_in_parts_loses_no_byte_up_to_the_one_that_fails(rt: HostRuntime) -> Result<(), Fail> {
     let whole = b"+HI {\"v\":2}\r\n+OK\r\n+OK\r\n";
     for (failing, status) in [(0, 4), (1, 4), (12, 4), (13, 4), (22, 4), (23, 0)] {
-        let bytes = joined(rt.alloc(), &[HELLO, PUSH, END])?;
-        let mut input = ByteSource::new(rt.alloc(), &bytes, &[], &[])?;
-        let mut output = Narrow {
-            to: ByteSink::new(rt.alloc(), &[failing])?,
-        };
-        let mut kept = Jobs::new(rt.alloc());
-        let got = pipe(rt.alloc(), &["pipe"], &mut input, &mut output, &mut kept);
+        let (got, written) = ran_narrow(rt.alloc(), failing)?;
         assert_eq!(rt; got, status);
-        assert_eq!(rt; Some(output.to.bytes()), whole.get(..failing as usize));
+        assert_eq!(rt; Some(written.as_slice()), whole.get(..failing as usize));
     }
     Ok(())
 }
@@ -247,11 +253,9 @@ fn other_words_call_nothing(rt: HostRuntime) -> Result<(), Fail> {
     for words in [[].as_slice(), &["dance"], &["pipe", "pipe"], &["Pipe"]] {
         let mut input = ByteSource::new(rt.alloc(), HELLO, &[], &[])?;
         let mut output = ByteSink::new(rt.alloc(), &[])?;
-        let mut kept = Jobs::new(rt.alloc());
-        assert_eq!(rt;
-            pipe(rt.alloc(), words, &mut input, &mut output, &mut kept),
-            2
-        );
+        let mut tables = new_tables(rt.alloc());
+        let status = serve(rt.alloc(), words, &mut input, &mut output, &mut tables)?;
+        assert_eq!(rt; status, 2);
         assert_eq!(rt; output.bytes(), b"".as_slice());
         assert_eq!(rt; left_of(rt.alloc(), &mut input)?.as_slice(), HELLO);
     }

@@ -1,15 +1,17 @@
-use Rattle.std.proofs.Common.{refl}
+use Rattle.std.proofs.Common.{inl, refl}
 use Rattle.std.proofs.lemmas.Result.{err_from_is_err_and}
-use Rattle.fk_model.specs.Items.{given_of}
-use Rattle.fk_server.proofs.Giving.{reply_stops, starved_at_reply}
+use Rattle.fk_server.proofs.Giving.{gives_one, starved_first, stops_at_reply}
 use Rattle.fk_server.proofs.answer.answer.Goals as goal
 
-pub returns-in_err-bytes-clause-err : goal.returns-in_err-bytes-clause-err
-returns-in_err-bytes-clause-err g c =
-    let p = err_from_is_err_and c.from_residual-in_err-bytes.result c.from_residual-in_err-bytes.ensures.1 in
-    rw (p.1, p.2) (starved_at_reply _ _ (given_of c.args.item) refl c.in_ok-append.ensures.ok)
+pub returns-in_err-reply-clause-err : goal.returns-in_err-reply-clause-err
+returns-in_err-reply-clause-err g c =
+    let p = err_from_is_err_and c.from_residual.result c.from_residual.ensures.1 in
+    rw (p.1, p.2) (inl (starved_first _ _ refl c.in_err-reply.ensures.err))
+
+pub returns-clause-ok : goal.returns-clause-ok
+returns-clause-ok g c =
+    gives_one c.write_answer.result _ _ _ _ c.in_ok-reply.ensures.ok c.write_answer.ensures.ok
 
 pub returns-clause-err : goal.returns-clause-err
 returns-clause-err g c =
-    reply_stops c.write_all.result _ _ (given_of c.args.item)
-    (rw (c.bytes-2.ensures, c.in_ok-bytes.ensures) at c.write_all.ensures.err) c.in_ok-append.ensures.ok
+    stops_at_reply c.write_answer.result _ _ _ _ c.in_ok-reply.ensures.ok c.write_answer.ensures.err

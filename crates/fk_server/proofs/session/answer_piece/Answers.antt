@@ -1,5 +1,5 @@
 use Rattle.std.proofs.lemmas.Result.{err_from_is_err_and}
-use Rattle.fk_server.proofs.Ends.{starved_at_feed}
+use Rattle.fk_server.proofs.Breaks.{starved_at_feed}
 use Rattle.fk_server.proofs.session.answer_piece.Goals as goal
 
 pub returns-in_err-feed-clause-err : goal.returns-in_err-feed-clause-err

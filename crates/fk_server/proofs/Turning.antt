@@ -1,0 +1,283 @@
+-- Turns one behind the other, and the steps that a turn may be.
+use Rattle.std.proofs.Common.{◌≡◌, ◌↔◌, ℕ, Bool, true, false, if◌then◌else◌, ◌-◌, ◌<◌, ◌≤◌, List, [], ◌∷◌, ◌++◌, length, Option, None, Some, refl, sym, ◌∙◌, ap, arith, rules}
+use Rattle.std.specs.Prelude.{IsTrue, slice_get}
+use Rattle.std.proofs.lemmas.Bool.{false≢true}
+use Rattle.std.specs.List.{IsDistinct}
+use Rattle.std.specs.Option.{option_map_or}
+use Rattle.std.proofs.lemmas.List.{length-append, map-append}
+use Rattle.std.proofs.lemmas.List.Elements.{All-nil, All-cons, All-append}
+use Rattle.std.proofs.lemmas.List.Sums.{fold-append}
+use Rattle.fk_io.specs.Telling.{Tells}
+use Rattle.fk_io.proofs.Told.{told_nothing, told_one, told_both}
+use Rattle.fk_frame.specs.declared.reply.Reply.{Reply}
+use Rattle.fk_frame.specs.declared.reply.Reply.TheVariants.{Nil}
+use Rattle.fk_frame.specs.Replies.{IsWellFormed}
+use Rattle.fk_time.specs.Moments.{greatest}
+use Rattle.fk_model.specs.declared.ask.Ask.{Ask}
+use Rattle.fk_model.specs.declared.ask.Ask.TheVariants.{Push, PushBatch, Fetch, Ack}
+use Rattle.fk_model.specs.declared.answer.Answer.{Answer}
+use Rattle.fk_model.specs.declared.answer.Answer.TheVariants.{Said, NoMemory, Full, DiskFault}
+use Rattle.fk_model.specs.declared.told.Compaction.TheVariants.{NotDue}
+use Rattle.fk_model.specs.declared.entry.Entry.{Entry}
+use Rattle.fk_model.specs.declared.item.Item.TheVariants.{Own, Asks}
+use Rattle.fk_model.specs.declared.move_.Move.{Move}
+use Rattle.fk_model.specs.declared.row.Row.{Row}
+use Rattle.fk_model.specs.Limits.{greatest_next}
+use Rattle.fk_model.specs.State.{Kept, State, without_workers}
+use Rattle.fk_model.specs.Between.{IsAboveAll, IsWellKept, IsBetweenTurns}
+use Rattle.fk_model.specs.Range.{IsInRange}
+use Rattle.fk_model.specs.Spellings.{IsWord}
+use Rattle.fk_model.specs.Requests.{fetched}
+use Rattle.fk_model.specs.Said.{effect_of, handed_out, is_served, not_served, only_said}
+use Rattle.fk_model.specs.Turns.{closed, moves_due, moves_of_turn, moves_said, totals, turn, up_to_date}
+use Rattle.fk_model.specs.Answers.{reply_of}
+use Rattle.fk_model.specs.History.{next, faults_after, IsTold, IsRightAnswer, IsStep, IsLegalFrom, IsOverLimit}
+use Rattle.fk_model.proofs.Outs.{out-own, out-asks}
+use Rattle.fk_model.proofs.Histories.{legal_goes_on}
+use Rattle.fk_model.proofs.BetweenTurns.{next_keeps}
+use Rattle.fk_server.specs.Turning.{EndBeyond, Makes, Replies, Server, Turned, entry_of, moments_in, server, words_in}
+
+-- ---- histories
+
+-- a legal history has no fault, as long as there is no disk
+no_faults : (s : State) (n : ℕ) (history : List Entry) → n ≡ 0 → IsLegalFrom s n history
+    → faults_after n history ≡ 0
+unfolding IsLegalFrom
+no_faults s n [] none legal = none
+no_faults s n (entry ∷ history) none legal =
+    no_faults (next s entry) entry.told.after history legal.0.told.after legal.2
+
+-- no turn was made
+pub turned_nothing : (now : Server) → Turned now now []
+unfolding IsLegalFrom
+turned_nothing now = record {
+  seats = All-nil (λ entry. entry.seat ≡ 0);
+  moments = told_nothing now.moments;
+  words = told_nothing now.words;
+  legal = tt;
+  leads = refl;
+}
+
+-- turns were made, and then more
+pub turned_both : (old mid new : Server) (xs ys : List Entry) → Turned old mid xs → Turned mid new ys
+    → Turned old new (xs ++ ys)
+turned_both old mid new xs ys first second =
+    let s = without_workers old.kept in
+    let none = no_faults s 0 xs refl first.legal in
+    record {
+      seats = All-append (λ entry. entry.seat ≡ 0) xs ys first.seats second.seats;
+      moments = rw map-append
+          (told_both old.moments mid.moments new.moments (moments_in xs) (moments_in ys) first.moments second.moments);
+      words = rw map-append
+          (told_both old.words mid.words new.words (words_in xs) (words_in ys) first.words second.words);
+      legal = (legal_goes_on s 0 xs ys).1 (first.legal, rw (none, first.leads) second.legal);
+      leads = fold-append next s xs ys ∙ rw first.leads second.leads;
+    }
+
+-- ---- one turn
+
+-- no worker comes by a turn
+none_fetched : (kept : Kept) (moment : ℕ) (wid : List ℕ) (row : Option (ℕ × Row))
+    → (option_map_or (handed_out (without_workers kept) moment wid) row (only_said (without_workers kept) Nil)).state
+    ≡ without_workers
+    (option_map_or (handed_out (without_workers kept) moment wid) row (only_said (without_workers kept) Nil)).state.kept
+none_fetched kept moment wid None = refl
+none_fetched kept moment wid (Some filed) = refl
+
+none_by_effect : (kept : Kept) (ask : Ask) (moment word : ℕ)
+    → (effect_of (without_workers kept) ask moment word).state
+    ≡ without_workers (effect_of (without_workers kept) ask moment word).state.kept
+unfolding effect_of
+none_by_effect kept (Push job) moment word = refl
+none_by_effect kept (PushBatch jobs told) moment word = refl
+none_by_effect kept (Fetch wid queues) moment word =
+    none_fetched kept moment wid (fetched (without_workers kept) wid queues)
+none_by_effect kept (Ack jid) moment word = refl
+none_by_effect kept other moment word = refl
+
+none_by_choice : (kept : Kept) (ask : Ask) (moment word : ℕ) (served : Bool)
+    → (if served then effect_of (without_workers kept) ask moment word
+    else only_said (without_workers kept) not_served).state
+    ≡ without_workers
+    (if served then effect_of (without_workers kept) ask moment word
+    else only_said (without_workers kept) not_served).state.kept
+none_by_choice kept ask moment word true = none_by_effect kept ask moment word
+none_by_choice kept ask moment word false = refl
+
+pub no_worker_comes : (kept : Kept) (ask : Ask) (moment word : ℕ)
+    → (turn (without_workers kept) ask moment word).state
+    ≡ without_workers (turn (without_workers kept) ask moment word).state.kept
+no_worker_comes kept ask moment word = none_by_choice kept ask moment word (is_served moment ask)
+
+-- what is told of a turn
+told_of_turn : (moment word : ℕ) → moment < greatest → IsWord word
+    → IsTold (record { moment = moment; word = word; before = 0; after = 0; compaction = NotDue })
+told_of_turn moment word below fits =
+    record { moment = below; word = fits; before = refl; after = refl; compaction = refl }
+
+-- memory ran out in a turn
+pub starves : (kept : Kept) (ask : Ask) (moment word : ℕ) → IsInRange ask → moment < greatest → IsWord word
+    → IsStep (without_workers kept) (entry_of ask moment word NoMemory) (without_workers kept)
+unfolding next
+starves kept ask moment word range below fits = record {
+  right = record { in_range = range; told = told_of_turn moment word below fits; answer = tt };
+  leads = refl;
+}
+
+-- a turn would be over its limit
+pub is_full : (kept : Kept) (ask : Ask) (moment word : ℕ) → IsInRange ask → moment < greatest → IsWord word
+    → IsOverLimit (without_workers kept) ask moment word
+    → IsStep (without_workers kept) (entry_of ask moment word Full) (without_workers kept)
+unfolding next
+is_full kept ask moment word range below fits over = record {
+  right = record { in_range = range; told = told_of_turn moment word below fits; answer = over };
+  leads = refl;
+}
+
+-- a turn was made
+pub says : (kept new : Kept) (ask : Ask) (moment word : ℕ) (reply : Reply) → IsInRange ask → moment < greatest → IsWord word
+    → ¬ IsOverLimit (without_workers kept) ask moment word
+    → reply ≡ (turn (without_workers kept) ask moment word).reply
+    → new ≡ (turn (without_workers kept) ask moment word).state.kept
+    → IsStep (without_workers kept) (entry_of ask moment word (Said reply)) (without_workers new)
+unfolding next
+says kept new ask moment word reply range below fits within said same = record {
+  right = record { in_range = range; told = told_of_turn moment word below fits; answer = (within, said) };
+  leads = ap without_workers same ∙ sym (no_worker_comes kept ask moment word);
+}
+
+-- the next number is above all tickets and ranks behind a step, too
+pub still_above : (kept new : Kept) (entry : Entry) → IsWellKept kept
+    → IsStep (without_workers kept) entry (without_workers new) → IsAboveAll new.next new.rows
+unfolding IsDistinct
+still_above kept new entry well step =
+    let ready : IsBetweenTurns (without_workers kept) = record { kept = well; names = tt } in
+    let behind : IsBetweenTurns (without_workers new) =
+    rw step.leads (next_keeps (without_workers kept) entry ready step.right) in
+    behind.kept.above
+
+-- a turn took a moment and a word, and was made at them
+pub makes_turn : (kept new : Kept) (moments words later_moments later_words : Option (List ℕ)) (ask : Ask)
+    (moment word : ℕ) (answer : Answer) → Tells moments moment later_moments → Tells words word later_words
+    → IsStep (without_workers kept) (entry_of ask moment word answer) (without_workers new)
+    → Makes (server kept moments words) (server new later_moments later_words) ask answer
+unfolding IsLegalFrom
+makes_turn kept new moments words later_moments later_words ask moment word answer when rolled step = record {
+  moment = moment;
+  word = word;
+  turned = record {
+    seats = All-cons (λ entry. entry.seat ≡ 0) (entry_of ask moment word answer) [] refl (All-nil (λ entry. entry.seat ≡ 0));
+    moments = told_one moments later_moments moment when;
+    words = told_one words later_words word rolled;
+    legal = (step.right, omega arith, tt);
+    leads = sym step.leads;
+  };
+}
+
+-- ---- the limit
+
+-- the last of a list
+last_at : {X : Type 0} (xs : List X) (x : X) → slice_get (xs ++ x ∷ []) (length xs) ≡ Some x
+last_at [] x = refl
+last_at (first ∷ xs) x = last_at xs x
+
+last_is : {X : Type 0} (xs : List X) (x : X) → slice_get (xs ++ x ∷ []) (length (xs ++ x ∷ []) - 1) ≡ Some x
+last_is xs x =
+    let at : length (xs ++ x ∷ []) - 1 ≡ length xs = omega (arith, length-append xs (x ∷ [])) in
+    rw at (last_at xs x)
+
+-- moves that end with the numbers tell whether they are beyond the limit, and where there is none, the
+-- kept state stays
+end_of : (moves : List Move) (before kept : Kept) → before.next ≤ greatest_next
+    → (closed moves kept ≡ [] → kept ≡ before) → EndBeyond (closed moves kept) ↔ (greatest_next < kept.next)
+end_of [] before kept within stays =
+    let same : kept.next ≡ before.next = ap (λ now. now.next) (stays refl) in
+    ((λ none. absurd none), (λ over. absurd (omega (arith, same, within, over))))
+end_of (move ∷ moves) before kept within stays =
+    rw (last_is (move ∷ moves) (totals kept)) ((λ over. over), (λ over. over))
+
+-- the end of a turn's moves tells whether it is over its limit
+limit_told : (kept : Kept) (ask : Ask) (moment word : ℕ) (moves : List Move)
+    → moves ≡ moves_of_turn (without_workers kept) ask moment word → kept.next ≤ greatest_next
+    → (moves ≡ [] → (turn (without_workers kept) ask moment word).state.kept ≡ kept)
+    → EndBeyond moves ↔ IsOverLimit (without_workers kept) ask moment word
+limit_told kept ask moment word moves are within stays =
+    let s = without_workers kept in
+    rw are (end_of (moves_due s moment word ++ moves_said kept (up_to_date s moment word) ask moment word)
+    kept (turn s ask moment word).state.kept within (rw are at stays))
+
+-- where the test of that end says so, it is
+pub is_beyond : (kept : Kept) (ask : Ask) (moment word : ℕ) (moves : List Move) (over : Bool)
+    → moves ≡ moves_of_turn (without_workers kept) ask moment word → kept.next ≤ greatest_next
+    → (moves ≡ [] → (turn (without_workers kept) ask moment word).state.kept ≡ kept)
+    → IsTrue over ↔ EndBeyond moves → over ≡ true
+    → IsOverLimit (without_workers kept) ask moment word
+is_beyond kept ask moment word moves over are within stays tested told =
+    (limit_told kept ask moment word moves are within stays).0 (tested.0 told)
+
+-- and where it doesn't, it isn't
+pub is_within : (kept : Kept) (ask : Ask) (moment word : ℕ) (moves : List Move) (over : Bool)
+    → moves ≡ moves_of_turn (without_workers kept) ask moment word → kept.next ≤ greatest_next
+    → (moves ≡ [] → (turn (without_workers kept) ask moment word).state.kept ≡ kept)
+    → IsTrue over ↔ EndBeyond moves → over ≡ false
+    → ¬ IsOverLimit (without_workers kept) ask moment word
+is_within kept ask moment word moves over are within stays tested untold beyond =
+    let same = limit_told kept ask moment word moves are within stays in
+    false≢true (sym untold ∙ tested.1 (same.1 beyond))
+
+-- ---- what is replied
+
+-- what a turn says is one line where it has to be
+fetched_in_form : (s : State) (moment : ℕ) (wid : List ℕ) (row : Option (ℕ × Row))
+    → IsWellFormed (option_map_or (handed_out s moment wid) row (only_said s Nil)).reply
+fetched_in_form s moment wid None = tt
+fetched_in_form s moment wid (Some filed) = tt
+
+effect_in_form : (s : State) (ask : Ask) (moment word : ℕ)
+    → IsWellFormed (effect_of s ask moment word).reply
+unfolding effect_of
+effect_in_form s (Push job) moment word = search rules
+effect_in_form s (PushBatch jobs told) moment word = tt
+effect_in_form s (Fetch wid queues) moment word = fetched_in_form s moment wid (fetched s wid queues)
+effect_in_form s (Ack jid) moment word = search rules
+effect_in_form s other moment word = search rules
+
+choice_in_form : (s : State) (ask : Ask) (moment word : ℕ) (served : Bool)
+    → IsWellFormed (if served then effect_of s ask moment word else only_said s not_served).reply
+choice_in_form s ask moment word true = effect_in_form s ask moment word
+choice_in_form s ask moment word false = search rules
+
+-- so is each answer that is right
+answer_in_form : (s : State) (entry : Entry) (answer : Answer) → IsRightAnswer s entry answer
+    → IsWellFormed (reply_of answer)
+answer_in_form s entry (Said reply) right =
+    rw right.1 (choice_in_form s entry.ask entry.told.moment entry.told.word (is_served entry.told.moment entry.ask))
+answer_in_form s entry NoMemory right = search rules
+answer_in_form s entry Full right = search rules
+answer_in_form s entry DiskFault right = absurd right
+
+pub made_in_form : (old new : Server) (ask : Ask) (answer : Answer) → Makes old new ask answer
+    → IsWellFormed (reply_of answer)
+unfolding IsLegalFrom
+made_in_form old new ask answer made =
+    answer_in_form (without_workers old.kept) (entry_of ask made.moment made.word answer) answer
+    made.turned.legal.0.answer
+
+-- the reply is the item's own
+pub replies_own : (now : Server) (reply : Reply) → Replies now now (Own reply) reply
+replies_own now reply = record {
+  history = [];
+  asks = refl;
+  turned = turned_nothing now;
+  bytes = sym (out-own reply []);
+}
+
+-- the reply is the answer of the turn
+pub replies_answer : (old new : Server) (ask : Ask) (answer : Answer) → Makes old new ask answer
+    → Replies old new (Asks ask) (reply_of answer)
+replies_answer old new ask answer made = record {
+  history = entry_of ask made.moment made.word answer ∷ [];
+  asks = refl;
+  turned = made.turned;
+  bytes = sym (out-asks ask answer);
+}

@@ -1,0 +1,91 @@
+-- Turns, one behind the other, as a session has them made, and their history.
+use Rattle.std.specs.Prelude.{◌≡◌, ℕ, ◌<◌, ◌-◌, List, [], ◌∷◌, length, map, All, Option, slice_get, IsSomeAnd}
+use Rattle.fk_io.specs.Telling.{Told}
+use Rattle.fk_frame.specs.declared.reply.Reply.{Reply}
+use Rattle.fk_frame.specs.Replies.{IsWellFormed, reply_bytes}
+use Rattle.fk_model.specs.declared.ask.Ask.{Ask}
+use Rattle.fk_model.specs.declared.answer.Answer.{Answer}
+use Rattle.fk_model.specs.declared.told.Compaction.TheVariants.{NotDue}
+use Rattle.fk_model.specs.declared.entry.Entry.{Entry}
+use Rattle.fk_model.specs.declared.item.Item.{Item}
+use Rattle.fk_model.specs.declared.item.Item.TheVariants.{Own, Asks}
+use Rattle.fk_model.specs.declared.move_.Move.{Move}
+use Rattle.fk_model.specs.declared.move_.Move.TheVariants.{Totals}
+use Rattle.fk_model.specs.Limits.{greatest_next}
+use Rattle.fk_model.specs.State.{Kept, without_workers}
+use Rattle.fk_model.specs.Out.{asks_of, out}
+use Rattle.fk_model.specs.History.{after, IsLegal}
+
+-- what turns are made of: the kept state, and what the clock and the dice tell
+pub record Server : Type 0 where
+  pub kept : Kept
+  pub moments : Option (List ℕ)
+  pub words : Option (List ℕ)
+
+abbrev pub server : Kept → Option (List ℕ) → Option (List ℕ) → Server
+server kept moments words = record { kept = kept; moments = moments; words = words }
+
+-- ---- a history
+
+-- what was asked, what was answered, and which moment and which word each turn took, in order
+abbrev pub asks_in : List Entry → List Ask
+asks_in history = map (λ entry. entry.ask) history
+
+abbrev pub answers_in : List Entry → List Answer
+answers_in history = map (λ entry. entry.answer) history
+
+abbrev pub moments_in : List Entry → List ℕ
+moments_in history = map (λ entry. entry.told.moment) history
+
+abbrev pub words_in : List Entry → List ℕ
+words_in history = map (λ entry. entry.told.word) history
+
+-- Turns were made, and this is their history: each took one moment of the clock and one word of the
+-- dice, in order, it is legal from the kept state before it, without a worker, and leads to the one
+-- behind it. All turns are of one seat.
+pub record Turned (old new : Server) (history : List Entry) : Type 0 where
+  pub seats : All (λ entry. entry.seat ≡ 0) history
+  pub moments : Told old.moments (moments_in history) new.moments
+  pub words : Told old.words (words_in history) new.words
+  pub legal : IsLegal (without_workers old.kept) history
+  pub leads : after (without_workers old.kept) history ≡ without_workers new.kept
+
+-- ---- one turn
+
+-- a turn of the first seat, with no disk
+abbrev pub entry_of : Ask → ℕ → ℕ → Answer → Entry
+entry_of ask moment word answer = record {
+  seat = 0;
+  ask = ask;
+  told = record { moment = moment; word = word; before = 0; after = 0; compaction = NotDue };
+  answer = answer;
+}
+
+-- one turn was made, at some moment and with some word: this was asked, and this answered
+pub record Makes (old new : Server) (ask : Ask) (answer : Answer) : Type 0 where
+  pub moment : ℕ
+  pub word : ℕ
+  pub turned : Turned old new (entry_of ask moment word answer ∷ [])
+
+-- a reply of the script's own that is a status or an error is one line
+abbrev pub IsInForm : Item → Type 0
+IsInForm (Own reply) = IsWellFormed reply
+IsInForm (Asks ask) = Unit {0}
+
+-- the reply to an item was found: its own, or the answer of the turn that was made
+pub record Replies (old new : Server) (item : Item) (reply : Reply) : Type 0 where
+  pub history : List Entry
+  pub asks : asks_in history ≡ asks_of (item ∷ [])
+  pub turned : Turned old new history
+  pub bytes : reply_bytes reply ≡ out (item ∷ []) (answers_in history)
+
+-- ---- the limit
+
+-- a move tells a next number beyond the greatest
+abbrev pub IsBeyond : Move → Type 0
+IsBeyond (Totals next processed failures) = greatest_next < next
+IsBeyond other = ⊥
+
+-- the last of the moves does
+abbrev pub EndBeyond : List Move → Type 0
+EndBeyond moves = IsSomeAnd (slice_get moves (length moves - 1)) IsBeyond
