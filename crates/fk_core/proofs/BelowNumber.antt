@@ -11,7 +11,7 @@ use Rattle.fk_model.specs.declared.row.Row.{Row}
 use Rattle.fk_model.specs.Orders.{number_in, queue}
 use Rattle.fk_model.specs.Between.{IsAboveAll}
 use Rattle.fk_model.proofs.Rising.{rising_pairs}
-use Rattle.fk_model.specs.State.{Kept}
+use Rattle.fk_model.specs.State.{KeptState}
 use Rattle.fk_model.specs.Changes.{IsBehindQueue}
 use Rattle.fk_lists.specs.Room.{list_at}
 use Rattle.fk_core.specs.Index.{Index, last_number}
@@ -140,7 +140,7 @@ no_last pairs rank None at is = none_last pairs rank at
 no_last pairs rank (Some pair) at is = absurd (cc is)
 
 -- a rank is above all of a queue where it is above the last of them
-pub behind_last : (kept : Kept) (rows : List (ℕ × Row)) (index : Index) (next : ℕ) (name : List ℕ)
+pub behind_last : (kept : KeptState) (rows : List (ℕ × Row)) (index : Index) (next : ℕ) (name : List ℕ)
     (last rank : ℕ) → AreTied rows index next → rows ≡ kept.rows
     → Some last ≡ last_number (list_at index.queues.items name)
     → IsTrue (nat_lt last rank) ↔ IsBehindQueue kept name rank
@@ -151,7 +151,7 @@ behind_last kept rows index next name last rank tied same is =
     (rw (← same) (tied.distinct name)) refl (is ∙ ap last_number here)
 
 -- and where there is none
-pub behind_none : (kept : Kept) (rows : List (ℕ × Row)) (index : Index) (next : ℕ) (name : List ℕ)
+pub behind_none : (kept : KeptState) (rows : List (ℕ × Row)) (index : Index) (next : ℕ) (name : List ℕ)
     (rank : ℕ) → AreTied rows index next → rows ≡ kept.rows
     → None ≡ last_number (list_at index.queues.items name) → IsBehindQueue kept name rank
 behind_none kept rows index next name rank tied same is =

@@ -9,7 +9,7 @@ use Rattle.fk_model.specs.declared.row.Row.{Row}
 use Rattle.fk_model.specs.declared.place.Place.{Place}
 use Rattle.fk_model.specs.declared.place.Place.TheVariants.{Queued, Scheduled, Retry, Dead, Working}
 use Rattle.fk_model.specs.declared.move_.Move.TheVariants.{Add, Drop}
-use Rattle.fk_model.specs.State.{Kept}
+use Rattle.fk_model.specs.State.{KeptState}
 use Rattle.fk_model.specs.Limits.{greatest_next}
 use Rattle.fk_model.specs.Rows.{ticket_of, row_of, row_at, without_row}
 use Rattle.fk_model.specs.Orders.{number_in, ticket_in, rank_of, rank_in, is_queued, is_working, queue}
@@ -134,7 +134,7 @@ pub unqueued_leaves : (index : Index) (ticket : ℕ) (row : Row) → ¬ IsTrue (
 unqueued_leaves index ticket row not_queued name =
     rw (unranked name row (no_rank row.place not_queued)) tt
 
-pub put_leaves : (kept : Kept) (index : Index) (next ticket : ℕ) (row : Row) (place : Place)
+pub put_leaves : (kept : KeptState) (index : Index) (next ticket : ℕ) (row : Row) (place : Place)
     → AreTied kept.rows index next → MayGo kept ticket row place → MayLeave index ticket row
 put_leaves kept index next ticket row (Working wid since until) tied goes =
     first_leaves_it kept.rows index next ticket row tied goes
@@ -153,7 +153,7 @@ last_less rows ticket name (Some rank) last =
     (All-filter (is_of_other ticket) (λ pair. number_in pair < rank) (queue rows name) last)
 
 -- it is behind all others of its queue, or waits in none
-pub goes_last : (kept : Kept) (ticket : ℕ) (enqueued : Option ℕ) (failure : Option Failure) (place : Place)
+pub goes_last : (kept : KeptState) (ticket : ℕ) (enqueued : Option ℕ) (failure : Option Failure) (place : Place)
     (row : Row) → MayGo kept ticket row place → (name : List ℕ)
     → IsLast kept.rows name (rank_in name (put_row enqueued failure place row))
 goes_last kept ticket enqueued failure (Working wid since until) row goes name =

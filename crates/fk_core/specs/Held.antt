@@ -1,6 +1,6 @@
 -- Tables, as their contracts see them: the kept state, and the room beside it.
 use Rattle.std.specs.Prelude.{ℕ, ◌≤◌, List}
-use Rattle.fk_model.specs.State.{Kept}
+use Rattle.fk_model.specs.State.{KeptState}
 use Rattle.fk_lists.specs.Room.{Spares, spare_at}
 
 -- How much may be put without taking memory: rows, rows into each queue, and leases of each jid.
@@ -10,7 +10,7 @@ pub record Room : Type 0 where
   pub leases : Spares
 
 pub record Held : Type 0 where
-  pub kept : Kept
+  pub kept : KeptState
   pub room : Room
 
 -- one room is at least another

@@ -2,4 +2,4 @@ pub mod Content
 pub mod Faults
 mod Pieces
 mod Rest
-pub mod Told
+pub mod Giving

@@ -27,6 +27,6 @@ told_of zero items = []
 told_of (suc calls) items = take 1 items ++ told_of calls (rest_of items)
 
 -- calls gave these answers, one after another
-pub record Told (before : Option (List ℕ)) (answers : List ℕ) (after : Option (List ℕ)) : Type 0 where
+pub record Gave (before : Option (List ℕ)) (answers : List ℕ) (after : Option (List ℕ)) : Type 0 where
   pub all : IfSome before (λ items. answers ≡ told_of (length answers) items)
   pub left : after ≡ option_map (rest_after (length answers)) before

@@ -7,7 +7,7 @@ use Rattle.std.specs.List.{AllByRecursion}
 use Rattle.std.specs.Str.{bytes_eq}
 use Rattle.std.proofs.lemmas.Slice.Eq.{bytes_eq-Decides}
 use Rattle.fk_json.specs.String.{Part, byte, letter, unit, IsHexadecimal, IsPart, code_unit, is_letter, letter_byte, part_text}
-use Rattle.fk_json.specs.Pieces.{IsQuoted, NoPart, Stands, Takes, piece_of, sense}
+use Rattle.fk_json.specs.Pieces.{IsQuoted, NoPart, StandsFor, Takes, piece_of, sense}
 use Rattle.fk_json.specs.declared.piece.Piece.{Piece}
 use Rattle.fk_json.specs.declared.piece.Piece.TheVariants.{Byte, Unit}
 
@@ -71,11 +71,11 @@ no_quote_part (unit a b c d) x y f e = absurd (omega (arith, head_of e))
 -- ---- reading on
 
 abbrev pub Onward : List ℕ → Option ℕ → List ℕ → List ℕ → Type 0
-Onward rest high value inside = (v : List ℕ) → Stands high rest v → Stands None inside (value ++ v)
+Onward rest high value inside = (v : List ℕ) → StandsFor high rest v → StandsFor None inside (value ++ v)
 
 abbrev pub Back : List ℕ → Option ℕ → List ℕ → List ℕ → Type 0
 Back rest high value inside =
-    (w : List ℕ) → Stands None inside w → (v : List ℕ) × Stands high rest v × (w ≡ value ++ v)
+    (w : List ℕ) → StandsFor None inside w → (v : List ℕ) × StandsFor high rest v × (w ≡ value ++ v)
 
 -- what is done and what is left are the whole
 pub record Reading (rest : List ℕ) (high : Option ℕ) (value inside : List ℕ) : Type 0 where
@@ -112,13 +112,13 @@ pub goes_on : (rest after : List ℕ) (high left : Option ℕ) (value new inside
     → Reading rest high value inside → Reading after left new inside
 goes_on rest after high left value new inside piece takes keeps reading = record {
   onward = λ v s.
-      let more : Stands high rest (sense high (piece ∷ map piece_of s.parts)) = record {
+      let more : StandsFor high rest (sense high (piece ∷ map piece_of s.parts)) = record {
         parts = takes.part ∷ s.parts;
         each = (takes.fits, s.each);
         whole = takes.whole ∙ ap (λ x. part_text takes.part ++ x) s.whole ∙ sym (front_part takes.part s.parts);
         means = ap (λ x. sense high (x ∷ map piece_of s.parts)) takes.brings;
       } in
-      subst (Stands None inside) (sym (keeps (map piece_of s.parts)) ∙ ap (λ x. new ++ x) (sym s.means)) (reading.onward _ more);
+      subst (StandsFor None inside) (sym (keeps (map piece_of s.parts)) ∙ ap (λ x. new ++ x) (sym s.means)) (reading.onward _ more);
   back = λ w s.
       let (v, standing, e) = reading.back w s in
       let (ps, each, whole, means) = behind rest after high piece v takes standing.parts standing.each standing.whole standing.means in (
@@ -139,7 +139,7 @@ nothing_left rest answer is fails none (p ∷ ps) each whole =
 -- neither a part nor the closing quote alone is left
 pub no_value : (rest : List ℕ) (high : Option ℕ) (value inside w : List ℕ) (answer : Bool)
     → answer ≡ bytes_eq rest (34 ∷ []) → answer ≡ false → NoPart rest
-    → Reading rest high value inside → ¬ Stands None inside w
+    → Reading rest high value inside → ¬ StandsFor None inside w
 no_value rest high value inside w answer is fails none reading s =
     let (v, standing, e) = reading.back w s in
     nothing_left rest answer is fails none standing.parts standing.each standing.whole
@@ -150,15 +150,15 @@ closes rest answer is holds = (bytes_eq-Decides rest (34 ∷ [])).0 (sym is ∙ 
 -- ---- a quote in front
 
 pub finds_quoted : {E : Type 0} (b : ℕ) (inside : List ℕ) (r : Result (Option (List ℕ)) E) → b ≡ 34
-    → IfOk r (λ found. IfSome found (λ value. Stands None inside value))
+    → IfOk r (λ found. IfSome found (λ value. StandsFor None inside value))
     → IfOk r (λ found. IfSome found (λ value. IsQuoted (b ∷ inside) value))
 finds_quoted b inside (Ok None) e h = tt
 finds_quoted b inside (Ok (Some value)) e h = (inside, ap (λ x. x ∷ inside) e, h)
 finds_quoted b inside (Err x) e h = tt
 
-pub no_quoted : (b : ℕ) (inside value : List ℕ) → ((w : List ℕ) → ¬ Stands None inside w)
+pub no_quoted : (b : ℕ) (inside value : List ℕ) → ((w : List ℕ) → ¬ StandsFor None inside w)
     → ¬ IsQuoted (b ∷ inside) value
-no_quoted b inside value none (there, e, s) = none value (subst (λ x. Stands None x value) (sym (tail_of e)) s)
+no_quoted b inside value none (there, e, s) = none value (subst (λ x. StandsFor None x value) (sym (tail_of e)) s)
 
 pub quote_first : (b : ℕ) (inside value : List ℕ) → b ≢ 34 → ¬ IsQuoted (b ∷ inside) value
 quote_first b inside value ne (there, e, s) = ne (head_of e)

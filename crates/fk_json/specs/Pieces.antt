@@ -49,7 +49,7 @@ sense high (Unit u ∷ pieces) =
     behind_high (pair_of high u) high u (sense None pieces) (sense (Some u) pieces)
 
 -- the bytes are parts and the closing quote, and stand for the value behind a high surrogate
-pub record Stands (high : Option ℕ) (bytes value : List ℕ) : Type 0 where
+pub record StandsFor (high : Option ℕ) (bytes value : List ℕ) : Type 0 where
   pub parts : List Part
   pub each : AllByRecursion IsPart parts
   pub whole : bytes ≡ flat_map part_text parts ++ quote ∷ []
@@ -57,4 +57,4 @@ pub record Stands (high : Option ℕ) (bytes value : List ℕ) : Type 0 where
 
 -- a quote, parts and the closing quote
 abbrev pub IsQuoted : List ℕ → List ℕ → Type 0
-IsQuoted text value = (inside : List ℕ) × (text ≡ quote ∷ inside) × Stands None inside value
+IsQuoted text value = (inside : List ℕ) × (text ≡ quote ∷ inside) × StandsFor None inside value

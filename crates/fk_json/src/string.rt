@@ -1,7 +1,7 @@
 ghost use Rattle.std.specs.Prelude.{◌≡◌, ◌∷◌, [], ◌++◌, ◌<◌, ℕ, List, Ok, None, Some, flat_map, IfOk, IfSome, IsUtf8, OnErr, OnOk};
 ghost use Rattle.std.specs.Char.{digit_char};
 ghost use Rattle.std.specs.Str.{bytes_eq};
-ghost use Rattle.fk_json.specs.Pieces.{IsQuoted, Stands};
+ghost use Rattle.fk_json.specs.Pieces.{IsQuoted, StandsFor};
 ghost use Rattle.fk_json.specs.String.{IsString, quote, spelled_byte, spelled_control, spelling};
 
 use crate::Text;
@@ -95,8 +95,8 @@ fn behind_quote(alloc: Global, byte: u8, inside: &[u8]) -> Result<Option<Text>, 
 
 // What parts and a closing quote stand for.
 fn decoded(alloc: Global, inside: &[u8]) -> Result<Option<Text>, AllocError>
-    ensures some { IfOk result (λ found. IfSome found (λ value. Stands None inside.now value)) }
-    ensures none { result ≡ Ok None → (value : List ℕ) → ¬ Stands None inside.now value }
+    ensures some { IfOk result (λ found. IfSome found (λ value. StandsFor None inside.now value)) }
+    ensures none { result ≡ Ok None → (value : List ℕ) → ¬ StandsFor None inside.now value }
 {
     let mut value = Text::fixed(alloc, b"");
     let mut high = None;

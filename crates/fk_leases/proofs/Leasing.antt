@@ -10,7 +10,7 @@ use Rattle.std.proofs.lemmas.Bool.Decides.{nat_tests}
 use Rattle.fk_model.specs.Orders.{comes_before, number_in, with_pair}
 use Rattle.fk_lists.specs.Places.{IsGap, IsPlace}
 use Rattle.fk_lists.proofs.Rising.{AreAbove, AreBelow, all_join}
-use Rattle.fk_leases.specs.Leases.{leased_ticket, leased_until, without_lease, IsAbsent}
+use Rattle.fk_leases.specs.Leases.{leased_ticket, until_in, without_lease, IsAbsent}
 
 -- ---- what a filter keeps
 
@@ -95,7 +95,7 @@ absent_at_gap pairs ticket at gap =
     (weaker _ _ (λ pair more same. omega (arith, more, same)) (drop at pairs) above))
 
 pub other_ticket : (ticket until : ℕ) (pair : ℕ × ℕ) → leased_ticket pair ≢ ticket
-    → not ((leased_ticket pair == ticket) && (leased_until pair == until)) ≡ true
+    → not ((leased_ticket pair == ticket) && (until_in pair == until)) ≡ true
 other_ticket ticket until pair differ = grind (arith, nat_tests, differ)
 
 without_absent : (pairs : List (ℕ × ℕ)) (ticket until : ℕ)

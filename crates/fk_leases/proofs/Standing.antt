@@ -9,12 +9,12 @@ use Rattle.std.proofs.lemmas.List.Elements.{All-from_recursion, All-contains}
 use Rattle.fk_model.specs.Orders.{number_in}
 use Rattle.fk_lists.specs.Places.{IsPlace}
 use Rattle.fk_lists.proofs.Rising.{AreAbove, AreRising, rising_from}
-use Rattle.fk_leases.specs.Leases.{leased_ticket, leased_until, without_lease}
+use Rattle.fk_leases.specs.Leases.{leased_ticket, until_in, without_lease}
 use Rattle.fk_leases.proofs.Leasing.{kept_all, weaker, other_ticket}
 
 -- the lease at a place runs until this moment
 abbrev pub RunsUntil : List (ℕ × ℕ) → ℕ → ℕ → Type 0
-RunsUntil pairs at until = option_map leased_until (slice_get pairs at) ≡ Some until
+RunsUntil pairs at until = option_map until_in (slice_get pairs at) ≡ Some until
 
 -- a ticket behind another is above it
 above_at : (number ticket : ℕ) (pairs : List (ℕ × ℕ)) (at : ℕ)
@@ -78,12 +78,12 @@ rest_stays pair pairs ticket until same above =
     kept_all _ pairs
     (weaker _ _ (other_ticket ticket until) pairs (rest_differs (number_in pair) ticket pairs same above))
 
-first_goes : (ticket until : ℕ) (pair : ℕ × ℕ) → number_in pair ≡ ticket → leased_until pair ≡ until
-    → not ((leased_ticket pair == ticket) && (leased_until pair == until)) ≡ false
+first_goes : (ticket until : ℕ) (pair : ℕ × ℕ) → number_in pair ≡ ticket → until_in pair ≡ until
+    → not ((leased_ticket pair == ticket) && (until_in pair == until)) ≡ false
 first_goes ticket until pair one other = grind (arith, nat_tests, one, other)
 
-first_stays : (ticket until : ℕ) (pair : ℕ × ℕ) → leased_until pair ≢ until
-    → not ((leased_ticket pair == ticket) && (leased_until pair == until)) ≡ true
+first_stays : (ticket until : ℕ) (pair : ℕ × ℕ) → until_in pair ≢ until
+    → not ((leased_ticket pair == ticket) && (until_in pair == until)) ≡ true
 first_stays ticket until pair differ = grind (arith, nat_tests, differ)
 
 taken_at : (pairs : List (ℕ × ℕ)) (ticket until at : ℕ) → AreRising pairs → IsPlace pairs ticket at

@@ -11,8 +11,8 @@ abbrev pub leased_ticket : ℕ × ℕ → ℕ
 leased_ticket lease = lease.0
 
 -- the moment until which it runs
-abbrev pub leased_until : ℕ × ℕ → ℕ
-leased_until lease = lease.1
+abbrev pub until_in : ℕ × ℕ → ℕ
+until_in lease = lease.1
 
 -- the leases of each jid are in order of ticket
 abbrev pub AreByTicket : Named → Type 0
@@ -25,13 +25,13 @@ IsAbsent ticket leases = All (λ lease. leased_ticket lease ≢ ticket) leases
 -- without the lease of this ticket until this moment
 abbrev pub without_lease : ℕ → ℕ → List (ℕ × ℕ) → List (ℕ × ℕ)
 without_lease ticket until leases =
-    filter (λ lease. not ((leased_ticket lease == ticket) && (leased_until lease == until))) leases
+    filter (λ lease. not ((leased_ticket lease == ticket) && (until_in lease == until))) leases
 
 -- the least moment until which a lease runs
 abbrev pub first_until : Named → Option ℕ
-first_until leases = least (map leased_until (all_pairs leases))
+first_until leases = least (map until_in (all_pairs leases))
 
 -- the leases that run at most until a moment, in order of ticket
 abbrev pub run_out : ℕ → Named → List (ℕ × ℕ)
 run_out moment leases =
-    in_order (filter (λ lease. not (nat_lt moment (leased_until lease))) (all_pairs leases))
+    in_order (filter (λ lease. not (nat_lt moment (until_in lease))) (all_pairs leases))

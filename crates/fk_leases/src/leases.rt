@@ -2,7 +2,7 @@ ghost use Rattle.std.specs.Prelude.{◌≡◌, ◌≢◌, ◌↔◌, ◌++◌, �
 ghost use Rattle.std.specs.List.{remove};
 ghost use Rattle.fk_model.specs.Orders.{with_pair};
 ghost use Rattle.fk_lists.specs.Room.{all_pairs, list_at, mark_at, spare_at, AreNamed, IsLean, OthersStay};
-ghost use Rattle.fk_leases.specs.Leases.{first_until, leased_ticket, leased_until, run_out, without_lease, AreByTicket, IsAbsent};
+ghost use Rattle.fk_leases.specs.Leases.{first_until, leased_ticket, until_in, run_out, without_lease, AreByTicket, IsAbsent};
 
 use fk_json::{Pairs, Text};
 use fk_lists::Lists;
@@ -98,7 +98,7 @@ impl Leases {
     // Takes the lease at a place out, if it runs until this moment.
     fn take_at(&mut self, jid: &Text, at: usize, until: u64) -> bool
         ensures found { IsTrue result
-            ↔ (option_map leased_until (slice_get (list_at self.old.items jid.now) at)
+            ↔ (option_map until_in (slice_get (list_at self.old.items jid.now) at)
             ≡ Some until) }
         ensures taken { IsTrue result → list_at self.new.items jid.now
             ≡ remove (list_at self.old.items jid.now) at }

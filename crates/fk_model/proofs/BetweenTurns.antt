@@ -6,7 +6,7 @@ use Rattle.fk_model.specs.declared.entry.Entry.{Entry}
 use Rattle.fk_model.specs.State.{State, empty}
 use Rattle.fk_model.specs.Orders.{in_order}
 use Rattle.fk_model.specs.Between.{IsWellKept, IsBetweenTurns}
-use Rattle.fk_model.specs.History.{turn_of, left_by, next, after, IsRightAnswer, IsRight, IsLegalFrom}
+use Rattle.fk_model.specs.History.{turn_of, left_by, next_state, state_after, IsRightAnswer, IsRight, IsLegalFrom}
 use Rattle.fk_model.proofs.Turning.{turn_keeps}
 
 -- the empty kept state is well kept
@@ -35,14 +35,14 @@ left_keeps s entry DiskFault ready right said = ready
 
 -- an entry that is right keeps it
 pub next_keeps : (s : State) (entry : Entry) → IsBetweenTurns s → IsRight s entry
-    → IsBetweenTurns (next s entry)
-unfolding next
+    → IsBetweenTurns (next_state s entry)
+unfolding next_state
 next_keeps s entry ready right = left_keeps s entry entry.answer ready right right.answer
 
 -- and so does each legal history
 pub history_keeps : (s : State) (n : ℕ) (entries : List Entry) → IsBetweenTurns s
-    → IsLegalFrom s n entries → IsBetweenTurns (after s entries)
+    → IsLegalFrom s n entries → IsBetweenTurns (state_after s entries)
 unfolding IsLegalFrom
 history_keeps s n [] ready legal = ready
 history_keeps s n (entry ∷ entries) ready legal =
-    history_keeps (next s entry) entry.told.after entries (next_keeps s entry ready legal.0) legal.2
+    history_keeps (next_state s entry) entry.told.after entries (next_keeps s entry ready legal.0) legal.2

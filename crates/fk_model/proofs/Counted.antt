@@ -5,7 +5,7 @@ use Rattle.std.proofs.lemmas.List.Elements.{filter-append}
 use Rattle.fk_model.specs.declared.row.Row.{Row}
 use Rattle.fk_model.specs.declared.place.Place.{Place}
 use Rattle.fk_model.specs.Rows.{ticket_of, row_of, IsByTicket, row_at, with_row, with_changed, without_row}
-use Rattle.fk_model.specs.State.{Kept}
+use Rattle.fk_model.specs.State.{KeptState}
 use Rattle.fk_model.specs.Orders.{number_in, is_working, working, leased}
 use Rattle.fk_model.proofs.Cuts.{below, above}
 use Rattle.fk_model.proofs.Filed.{without_parts, standing, changed_at}
@@ -86,7 +86,7 @@ first_of_jid until works jid (filed ∷ rows) =
 -- Where a number is that of each row that a worker has, the first ticket of a jid with its number is the
 -- ticket of the row that is leased under the jid.
 pub leased_first : (until : Place → Option ℕ)
-    → ((place : Place) → is_some (until place) ≡ is_working place) → (kept : Kept) (jid : List ℕ)
+    → ((place : Place) → is_some (until place) ≡ is_working place) → (kept : KeptState) (jid : List ℕ)
     → option_map ticket_of (leased kept jid)
     ≡ option_map number_in (slice_get (ticketed (under_jid until jid) kept.rows) 0)
 leased_first until works kept jid = first_of_jid until works jid kept.rows

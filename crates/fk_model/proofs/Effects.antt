@@ -8,7 +8,7 @@ use Rattle.fk_model.specs.declared.move_.Move.{Move}
 use Rattle.fk_model.specs.declared.move_.Move.TheVariants.{Add, Drop}
 use Rattle.fk_model.specs.Limits.{greatest_next}
 use Rattle.fk_model.specs.Rows.{ticket_of, row_of, row_at, with_changed, without_row}
-use Rattle.fk_model.specs.State.{Kept}
+use Rattle.fk_model.specs.State.{KeptState}
 use Rattle.fk_model.specs.Orders.{rank_of}
 use Rattle.fk_model.specs.Spellings.{IsText, HasSpelling}
 use Rattle.fk_model.specs.Between.{IsAboveAll, IsWellKept}
@@ -23,7 +23,7 @@ use Rattle.fk_model.proofs.Waiting.{IsFirstRow, IsLeased, not_queued}
 
 -- ---- nothing is done
 
-pub nothing_is_rows : (kept : Kept) → AreRowsOf kept [] kept
+pub nothing_is_rows : (kept : KeptState) → AreRowsOf kept [] kept
 nothing_is_rows kept = record {
   rows = refl;
   none = λ e. refl;
@@ -31,7 +31,7 @@ nothing_is_rows kept = record {
   plain = All-nil (λ move. ¬ IsTotals move);
 }
 
-pub nothing_has_numbers : (kept : Kept) → IsWellKept kept → kept.next ≤ greatest_next
+pub nothing_has_numbers : (kept : KeptState) → IsWellKept kept → kept.next ≤ greatest_next
     → HasNumbers kept [] kept
 unfolding FitInTurn
 nothing_has_numbers kept well room = record {
@@ -51,7 +51,7 @@ told_change : Row → ℕ → List ℕ → Row → Row
 told_change row moment wid =
     put_row row.stamp.enqueued row.stamp.failure (reserved_row moment wid row).place
 
-handed_rows : (kept : Kept) (moment : ℕ) (wid : List ℕ) (filed : ℕ × Row) → IsWellKept kept
+handed_rows : (kept : KeptState) (moment : ℕ) (wid : List ℕ) (filed : ℕ × Row) → IsWellKept kept
     → IsFirstRow kept filed
     → (reserved moment wid kept (ticket_of filed)).rows ≡ (after_move kept (handing moment wid filed)).rows
 unfolding after_move
@@ -63,11 +63,11 @@ handed_rows kept moment wid filed well first =
     (reserved_row moment wid (row_of filed)).place)
     (row_of filed) well.by_ticket first.stands)
 
-handed_changes : (kept : Kept) (moment : ℕ) (wid : List ℕ) (filed : ℕ × Row) → IsWellKept kept
+handed_changes : (kept : KeptState) (moment : ℕ) (wid : List ℕ) (filed : ℕ × Row) → IsWellKept kept
     → IsFirstRow kept filed → reserved moment wid kept (ticket_of filed) ≡ kept → ⊥
 handed_changes kept moment wid filed well first same =
     let rows : with_changed kept.rows (ticket_of filed) (reserved_row moment wid) ≡ kept.rows =
-    ap (λ (k : Kept). k.rows) same in
+    ap (λ (k : KeptState). k.rows) same in
     let changed : row_at kept.rows (ticket_of filed)
     ≡ option_map (reserved_row moment wid) (row_at kept.rows (ticket_of filed)) =
     ap (λ xs. row_at xs (ticket_of filed)) (sym rows)
@@ -79,7 +79,7 @@ handed_changes kept moment wid filed well first same =
     let waits = first.waits in
     absurd (cc)
 
-pub handed_are_rows : (kept : Kept) (moment : ℕ) (wid : List ℕ) (filed : ℕ × Row) → IsWellKept kept
+pub handed_are_rows : (kept : KeptState) (moment : ℕ) (wid : List ℕ) (filed : ℕ × Row) → IsWellKept kept
     → IsFirstRow kept filed
     → AreRowsOf kept (handing moment wid filed ∷ []) (reserved moment wid kept (ticket_of filed))
 handed_are_rows kept moment wid filed well first = record {
@@ -90,7 +90,7 @@ handed_are_rows kept moment wid filed well first = record {
       (All-nil (λ move. ¬ IsTotals move));
 }
 
-handed_above : (kept : Kept) (moment : ℕ) (wid : List ℕ) (filed : ℕ × Row) → IsWellKept kept
+handed_above : (kept : KeptState) (moment : ℕ) (wid : List ℕ) (filed : ℕ × Row) → IsWellKept kept
     → IsFirstRow kept filed
     → IsAboveAll kept.next (after_move kept (handing moment wid filed)).rows
 handed_above kept moment wid filed well first =
@@ -105,14 +105,14 @@ handed_above kept moment wid filed well first =
           well.above.ranks tt;
     })
 
-spelled_at : (kept : Kept) (filed : ℕ × Row) → IsWellKept kept
+spelled_at : (kept : KeptState) (filed : ℕ × Row) → IsWellKept kept
     → row_at kept.rows (ticket_of filed) ≡ Some (row_of filed)
     → HasSpelling (Add (ticket_of filed) (row_of filed))
 spelled_at kept filed well stands =
     row_holds (λ x. HasSpelling (Add (ticket_of x) (row_of x))) kept.rows (ticket_of filed)
     (row_of filed) well.spelled stands
 
-handed_fits : (kept : Kept) (moment : ℕ) (wid : List ℕ) (filed : ℕ × Row) → IsWellKept kept
+handed_fits : (kept : KeptState) (moment : ℕ) (wid : List ℕ) (filed : ℕ × Row) → IsWellKept kept
     → IsText wid → moment ≤ greatest → IsFirstRow kept filed → Fits kept (handing moment wid filed)
 handed_fits kept moment wid filed well text within first =
     let spelled = spelled_at kept filed well first.stands in
@@ -128,7 +128,7 @@ handed_fits kept moment wid filed well text within first =
       allowed = rw first.stands first.first;
     }
 
-pub handed_have_numbers : (kept : Kept) (moment : ℕ) (wid : List ℕ) (filed : ℕ × Row)
+pub handed_have_numbers : (kept : KeptState) (moment : ℕ) (wid : List ℕ) (filed : ℕ × Row)
     → IsWellKept kept → IsText wid → moment ≤ greatest → kept.next ≤ greatest_next
     → IsFirstRow kept filed
     → HasNumbers kept (handing moment wid filed ∷ []) (reserved moment wid kept (ticket_of filed))
@@ -146,15 +146,15 @@ handed_have_numbers kept moment wid filed well text within room first = record {
 
 -- ---- one row leaves
 
-gone : (kept : Kept) (filed : ℕ × Row) → IsLeased kept filed → finished kept filed ≡ kept → ⊥
+gone : (kept : KeptState) (filed : ℕ × Row) → IsLeased kept filed → finished kept filed ≡ kept → ⊥
 gone kept filed held same =
-    let rows : without_row kept.rows (ticket_of filed) ≡ kept.rows = ap (λ (k : Kept). k.rows) same in
+    let rows : without_row kept.rows (ticket_of filed) ≡ kept.rows = ap (λ (k : KeptState). k.rows) same in
     let none : row_at kept.rows (ticket_of filed) ≡ None =
     ap (λ xs. row_at xs (ticket_of filed)) (sym rows) ∙ row_at_without kept.rows (ticket_of filed) in
     let stands = held.stands in
     absurd (cc)
 
-pub finished_are_rows : (kept : Kept) (filed : ℕ × Row) → IsLeased kept filed
+pub finished_are_rows : (kept : KeptState) (filed : ℕ × Row) → IsLeased kept filed
     → AreRowsOf kept (Drop (ticket_of filed) ∷ []) (finished kept filed)
 unfolding after_move
 finished_are_rows kept filed held = record {
@@ -165,7 +165,7 @@ finished_are_rows kept filed held = record {
       (All-nil (λ move. ¬ IsTotals move));
 }
 
-pub finished_have_numbers : (kept : Kept) (filed : ℕ × Row) → IsWellKept kept
+pub finished_have_numbers : (kept : KeptState) (filed : ℕ × Row) → IsWellKept kept
     → kept.next ≤ greatest_next → IsLeased kept filed
     → HasNumbers kept (Drop (ticket_of filed) ∷ []) (finished kept filed)
 unfolding FitInTurn after_move

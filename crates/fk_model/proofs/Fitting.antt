@@ -9,7 +9,7 @@ use Rattle.fk_model.specs.declared.place.Place.{Place}
 use Rattle.fk_model.specs.declared.place.Place.TheVariants.{Queued, Scheduled, Retry, Dead, Working}
 use Rattle.fk_model.specs.declared.move_.Move.TheVariants.{Add}
 use Rattle.fk_model.specs.Rows.{ticket_of, row_of, IsByTicket, row_at, with_row, with_changed}
-use Rattle.fk_model.specs.State.{Kept}
+use Rattle.fk_model.specs.State.{KeptState}
 use Rattle.fk_model.specs.Orders.{number_in, rank_of, rank_in, queue}
 use Rattle.fk_model.specs.Spellings.{IsWord, HasSpelling}
 use Rattle.fk_model.specs.Changes.{ComesLast}
@@ -18,7 +18,7 @@ use Rattle.fk_model.proofs.Ends.{rising_without}
 use Rattle.fk_model.proofs.Queues.{queue_appends, queue_stays, queue_left, queue_joined, queue_unchanged}
 
 -- what holds of a kept state whatever its next number is
-pub record IsSound (kept : Kept) : Type 0 where
+pub record IsSound (kept : KeptState) : Type 0 where
   pub by_ticket : IsByTicket kept.rows
   pub distinct : (name : List ℕ) → IsStrictlyIncreasing (map number_in (queue kept.rows name))
   pub spelled : All (λ filed. HasSpelling (Add (ticket_of filed) (row_of filed))) kept.rows
@@ -75,7 +75,7 @@ rising_left rows ticket change row name by_ticket at none rising =
 
 -- ---- a place that comes last
 
-last_if : (kept : Kept) (own name : List ℕ) (place : Place) (test : Bool)
+last_if : (kept : KeptState) (own name : List ℕ) (place : Place) (test : Bool)
     → bytes_eq own name ≡ test → ComesLast kept own place
     → IsLast kept.rows name (if test then rank_of place else None)
 last_if kept own name (Queued rank) true same last =
@@ -88,7 +88,7 @@ last_if kept own name (Working wid since until) true same last = tt
 last_if kept own name place false same last = tt
 
 -- a place that is behind all others of its queue is last in each
-pub comes_last : (kept : Kept) (row : Row) (name : List ℕ)
+pub comes_last : (kept : KeptState) (row : Row) (name : List ℕ)
     → ComesLast kept row.job.queue row.place → IsLast kept.rows name (rank_in name row)
 comes_last kept row name last =
     last_if kept row.job.queue name row.place (bytes_eq row.job.queue name) refl last

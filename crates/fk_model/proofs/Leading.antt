@@ -4,7 +4,7 @@ use Rattle.std.specs.Prelude.{All}
 use Rattle.fk_model.specs.declared.row.Row.{Row}
 use Rattle.fk_model.specs.declared.move_.Move.{Move}
 use Rattle.fk_model.specs.declared.move_.Move.TheVariants.{Add, Put, Drop, DropAll, Totals}
-use Rattle.fk_model.specs.State.{Kept}
+use Rattle.fk_model.specs.State.{KeptState}
 use Rattle.fk_model.specs.Spellings.{IsWord, HasSpelling}
 use Rattle.fk_model.specs.Between.{IsAboveAll, IsWellKept}
 use Rattle.fk_model.specs.Changes.{after_move, after_moves, IsNextNumber, FitInTurn, Lead, IsTotals, EndsWithTotals}
@@ -15,19 +15,19 @@ use Rattle.fk_model.proofs.SoundMoves.{after_each}
 -- ---- moves one behind the other
 
 -- the kept state after moves and then others
-pub after_both : (kept : Kept) (front back : List Move)
+pub after_both : (kept : KeptState) (front back : List Move)
     → after_moves kept (front ++ back) ≡ after_moves (after_moves kept front) back
 after_both kept [] back = refl
 after_both kept (move ∷ front) back = after_both (after_move kept move) front back
 
-pub fit_both : (kept : Kept) (front back : List Move) → FitInTurn kept front
+pub fit_both : (kept : KeptState) (front back : List Move) → FitInTurn kept front
     → FitInTurn (after_moves kept front) back → FitInTurn kept (front ++ back)
 unfolding FitInTurn
 fit_both kept [] back first second = second
 fit_both kept (move ∷ front) back first second =
     (first.0, fit_both (after_move kept move) front back first.1 second)
 
-pub fit_parts : (kept : Kept) (front back : List Move) → FitInTurn kept (front ++ back)
+pub fit_parts : (kept : KeptState) (front back : List Move) → FitInTurn kept (front ++ back)
     → FitInTurn kept front × FitInTurn (after_moves kept front) back
 unfolding FitInTurn
 fit_parts kept [] back both = (tt, both)
@@ -37,7 +37,7 @@ fit_parts kept (move ∷ front) back both =
 
 -- ---- what moves lead to is well kept
 
-sound_of : (kept : Kept) → IsWellKept kept → IsSound kept
+sound_of : (kept : KeptState) → IsWellKept kept → IsSound kept
 sound_of kept well = record {
   by_ticket = well.by_ticket;
   distinct = well.distinct;
@@ -46,7 +46,7 @@ sound_of kept well = record {
   failures = well.failures;
 }
 
-above_of : (kept : Kept) (last : Move) → IsTotals last → FitInTurn kept (last ∷ [])
+above_of : (kept : KeptState) (last : Move) → IsTotals last → FitInTurn kept (last ∷ [])
     → IsAboveAll (after_move kept last).next (after_move kept last).rows
 unfolding FitInTurn after_move
 above_of kept (Add ticket row) total fit = absurd total
@@ -55,7 +55,7 @@ above_of kept (Drop ticket) total fit = absurd total
 above_of kept DropAll total fit = absurd total
 above_of kept (Totals next processed failures) total fit = fit.0.allowed.above
 
-well_kept : (kept : Kept) → IsSound kept → IsAboveAll kept.next kept.rows → IsWellKept kept
+well_kept : (kept : KeptState) → IsSound kept → IsAboveAll kept.next kept.rows → IsWellKept kept
 well_kept kept sound above = record {
   by_ticket = sound.by_ticket;
   above = above;
@@ -66,7 +66,7 @@ well_kept kept sound above = record {
 }
 
 -- moves that end with the numbers lead from one well kept state to another
-pub leads_well : (from to : Kept) (moves : List Move) → IsWellKept from → Lead from moves to
+pub leads_well : (from to : KeptState) (moves : List Move) → IsWellKept from → Lead from moves to
     → EndsWithTotals moves → IsWellKept to
 leads_well from to moves well lead ends =
     let parts = fit_parts from ends.others (ends.last ∷ []) (rw ends.whole at lead.fit) in
@@ -81,31 +81,31 @@ leads_well from to moves well lead ends =
 -- ---- closing
 
 -- what is known of moves that change rows, and of the kept state that they are to lead to
-pub record AreRowsOf (from : Kept) (moves : List Move) (to : Kept) : Type 0 where
+pub record AreRowsOf (from : KeptState) (moves : List Move) (to : KeptState) : Type 0 where
   pub rows : to.rows ≡ (after_moves from moves).rows
   pub none : moves ≡ [] → to ≡ from
   pub stays : to ≡ from → moves ≡ []
   pub plain : All (λ move. ¬ IsTotals move) moves
 
 -- and what its numbers are to meet
-pub record HasNumbers (from : Kept) (moves : List Move) (to : Kept) : Type 0 where
+pub record HasNumbers (from : KeptState) (moves : List Move) (to : KeptState) : Type 0 where
   pub fit : FitInTurn from moves
   pub number : IsNextNumber (after_moves from moves) to.next
   pub processed : IsWord to.processed
   pub failures : IsWord to.failures
 
-told : (from : Kept) (moves : List Move) (to : Kept) → to.rows ≡ (after_moves from moves).rows
+told : (from : KeptState) (moves : List Move) (to : KeptState) → to.rows ≡ (after_moves from moves).rows
     → to ≡ after_moves from (moves ++ totals to ∷ [])
 unfolding after_move
 told from moves to same =
     rw after_both (ap (λ (xs : List (ℕ × Row)). record to { rows = xs }) same)
 
-pub closed_come : (from : Kept) (moves : List Move) (to : Kept) → AreRowsOf from moves to
+pub closed_come : (from : KeptState) (moves : List Move) (to : KeptState) → AreRowsOf from moves to
     → to ≡ after_moves from (closed moves to)
 closed_come from [] to rows = rows.none refl
 closed_come from (move ∷ moves) to rows = told from (move ∷ moves) to rows.rows
 
-pub closed_ends : (from : Kept) (moves : List Move) (to : Kept) → AreRowsOf from moves to
+pub closed_ends : (from : KeptState) (moves : List Move) (to : KeptState) → AreRowsOf from moves to
     → closed moves to ≢ [] → EndsWithTotals (closed moves to)
 closed_ends from [] to rows some = absurd (some refl)
 closed_ends from (move ∷ moves) to rows some = record {
@@ -116,12 +116,12 @@ closed_ends from (move ∷ moves) to rows some = record {
   none = rows.plain;
 }
 
-numbers_spelled : (from : Kept) (moves : List Move) (to : Kept) → HasNumbers from moves to
+numbers_spelled : (from : KeptState) (moves : List Move) (to : KeptState) → HasNumbers from moves to
     → HasSpelling (totals to)
 numbers_spelled from moves to numbers =
     (omega (arith, numbers.number.within), numbers.processed, numbers.failures)
 
-pub closed_leads : (from : Kept) (moves : List Move) (to : Kept) → AreRowsOf from moves to
+pub closed_leads : (from : KeptState) (moves : List Move) (to : KeptState) → AreRowsOf from moves to
     → HasNumbers from moves to → Lead from (closed moves to) to
 unfolding FitInTurn
 closed_leads from [] to rows numbers = record { fit = tt; come = closed_come from [] to rows }
@@ -132,14 +132,14 @@ closed_leads from (move ∷ moves) to rows numbers = record {
 }
 
 -- there is no move exactly where the kept state stays
-pub closed_stays : (from : Kept) (moves : List Move) (to : Kept) → AreRowsOf from moves to
+pub closed_stays : (from : KeptState) (moves : List Move) (to : KeptState) → AreRowsOf from moves to
     → (closed moves to ≡ []) ↔ (to ≡ from)
 closed_stays from moves to rows = (
   (λ none. closed_come from moves to rows ∙ ap (after_moves from) none),
   (λ same. ap (λ xs. closed xs to) (rows.stays same)),
 )
 
-kept_or_led : (from : Kept) (moves all : List Move) (to : Kept) → AreRowsOf from moves to
+kept_or_led : (from : KeptState) (moves all : List Move) (to : KeptState) → AreRowsOf from moves to
     → HasNumbers from moves to → closed moves to ≡ all → IsWellKept from → IsWellKept to
 kept_or_led from moves [] to rows numbers e well = rw ((closed_stays from moves to rows).0 e) well
 kept_or_led from moves (move ∷ others) to rows numbers e well =
@@ -147,7 +147,7 @@ kept_or_led from moves (move ∷ others) to rows numbers e well =
     (closed_ends from moves to rows (λ none. absurd (cc)))
 
 -- what they lead to is well kept
-pub closed_well : (from : Kept) (moves : List Move) (to : Kept) → AreRowsOf from moves to
+pub closed_well : (from : KeptState) (moves : List Move) (to : KeptState) → AreRowsOf from moves to
     → HasNumbers from moves to → IsWellKept from → IsWellKept to
 closed_well from moves to rows numbers well =
     kept_or_led from moves (closed moves to) to rows numbers refl well

@@ -10,7 +10,7 @@ use Rattle.fk_model.specs.declared.place.Place.TheVariants.{Queued, Scheduled}
 use Rattle.fk_model.specs.declared.move_.Move.TheVariants.{Add}
 use Rattle.fk_model.specs.Limits.{greatest_next}
 use Rattle.fk_model.specs.Rows.{ticket_of, row_of}
-use Rattle.fk_model.specs.State.{Kept}
+use Rattle.fk_model.specs.State.{KeptState}
 use Rattle.fk_model.specs.Orders.{rank_of}
 use Rattle.fk_model.specs.Spellings.{IsWord, IsMoment, HasJobSpelling, HasRowSpelling}
 use Rattle.fk_model.specs.Between.{IsAboveAll}
@@ -70,7 +70,7 @@ pushed_spelled moment ticket job within word spelled =
 -- ---- one job
 
 -- a new row under a ticket above all fits
-pub pushed_fits : (kept : Kept) (moment ticket : ℕ) (job : Job) → moment ≤ greatest → IsWord ticket
+pub pushed_fits : (kept : KeptState) (moment ticket : ℕ) (job : Job) → moment ≤ greatest → IsWord ticket
     → HasJobSpelling job → IsAboveAll ticket kept.rows
     → Fits kept (Add ticket (pushed_row moment ticket job))
 pushed_fits kept moment ticket job within word spelled above = record {
@@ -83,7 +83,7 @@ pushed_fits kept moment ticket job within word spelled above = record {
 }
 
 -- behind it, the number after the ticket is above all
-pub pushed_above : (kept : Kept) (moment ticket : ℕ) (job : Job) → IsAboveAll ticket kept.rows
+pub pushed_above : (kept : KeptState) (moment ticket : ℕ) (job : Job) → IsAboveAll ticket kept.rows
     → IsAboveAll (ticket + 1) (after_move kept (Add ticket (pushed_row moment ticket job))).rows
 unfolding after_move
 pushed_above kept moment ticket job above = record {
@@ -103,7 +103,7 @@ pushed_above kept moment ticket job above = record {
 
 -- ---- jobs one behind the other
 
-adds_fit : (moment : ℕ) (jobs : List Job) (kept : Kept) (n : ℕ) → moment ≤ greatest
+adds_fit : (moment : ℕ) (jobs : List Job) (kept : KeptState) (n : ℕ) → moment ≤ greatest
     → All HasJobSpelling jobs → n + length jobs ≤ greatest_next → IsAboveAll n kept.rows
     → FitInTurn kept (moves_of_push moment n jobs)
 unfolding FitInTurn
@@ -115,7 +115,7 @@ adds_fit moment (job ∷ jobs) kept n within spelled room above = (
       (All-tail HasJobSpelling job jobs spelled) (omega (arith, room)) (pushed_above kept moment n job above),
 )
 
-adds_above : (moment : ℕ) (jobs : List Job) (kept : Kept) (n m : ℕ) → m ≡ n + length jobs
+adds_above : (moment : ℕ) (jobs : List Job) (kept : KeptState) (n m : ℕ) → m ≡ n + length jobs
     → IsAboveAll n kept.rows → IsAboveAll m (after_moves kept (moves_of_push moment n jobs)).rows
 adds_above moment [] kept n m e above = let same : m ≡ n = omega arith in rw same above
 adds_above moment (job ∷ jobs) kept n m e above =
@@ -123,7 +123,7 @@ adds_above moment (job ∷ jobs) kept n m e above =
     (pushed_above kept moment n job above)
 
 -- the numbers stay as they are until they are told
-adds_numbers : (moment : ℕ) (jobs : List Job) (kept : Kept) (n : ℕ)
+adds_numbers : (moment : ℕ) (jobs : List Job) (kept : KeptState) (n : ℕ)
     → ((after_moves kept (moves_of_push moment n jobs)).next ≡ kept.next)
     × ((after_moves kept (moves_of_push moment n jobs)).processed ≡ kept.processed)
     × ((after_moves kept (moves_of_push moment n jobs)).failures ≡ kept.failures)
@@ -132,7 +132,7 @@ adds_numbers moment [] kept n = (refl, refl, refl)
 adds_numbers moment (job ∷ jobs) kept n =
     adds_numbers moment jobs (after_move kept (Add n (pushed_row moment n job))) (n + 1)
 
-pushed_all : (moment : ℕ) (jobs : List Job) (kept : Kept) (n m : ℕ) → m ≡ n + length jobs
+pushed_all : (moment : ℕ) (jobs : List Job) (kept : KeptState) (n m : ℕ) → m ≡ n + length jobs
     → all_pushed moment (record kept { next = n }) jobs
     ≡ record (after_moves kept (moves_of_push moment n jobs)) { next = m }
 unfolding after_move
@@ -143,7 +143,7 @@ pushed_all moment (job ∷ jobs) kept n m e =
 
 -- ---- what is known of them
 
-none_then : (moment n : ℕ) (kept : Kept) (jobs : List Job) → moves_of_push moment n jobs ≡ []
+none_then : (moment n : ℕ) (kept : KeptState) (jobs : List Job) → moves_of_push moment n jobs ≡ []
     → all_pushed moment kept jobs ≡ kept
 none_then moment n kept [] none = refl
 none_then moment n kept (job ∷ jobs) none = absurd (cc)
@@ -154,34 +154,34 @@ adds_plain moment n (job ∷ jobs) =
     All-cons (λ move. ¬ IsTotals move) (Add n (pushed_row moment n job))
     (moves_of_push moment (n + 1) jobs) (λ total. total) (adds_plain moment (n + 1) jobs)
 
-pushes_stay : (moment : ℕ) (jobs : List Job) (kept : Kept) → all_pushed moment kept jobs ≡ kept
+pushes_stay : (moment : ℕ) (jobs : List Job) (kept : KeptState) → all_pushed moment kept jobs ≡ kept
     → moves_of_push moment kept.next jobs ≡ []
 pushes_stay moment [] kept same = refl
 pushes_stay moment (job ∷ jobs) kept same =
     let grown : (all_pushed moment kept (job ∷ jobs)).next ≡ kept.next + suc (length jobs) =
-    ap (λ (k : Kept). k.next)
+    ap (λ (k : KeptState). k.next)
     (pushed_all moment (job ∷ jobs) kept kept.next (kept.next + suc (length jobs)) refl) in
     let kept_there : (all_pushed moment kept (job ∷ jobs)).next ≡ kept.next =
-    ap (λ (k : Kept). k.next) same in
+    ap (λ (k : KeptState). k.next) same in
     absurd (omega (arith, grown, kept_there))
 
-pub pushes_are_rows : (moment : ℕ) (jobs : List Job) (kept : Kept)
+pub pushes_are_rows : (moment : ℕ) (jobs : List Job) (kept : KeptState)
     → AreRowsOf kept (moves_of_push moment kept.next jobs) (all_pushed moment kept jobs)
 pushes_are_rows moment jobs kept = record {
-  rows = ap (λ (k : Kept). k.rows) (pushed_all moment jobs kept kept.next (kept.next + length jobs) refl);
+  rows = ap (λ (k : KeptState). k.rows) (pushed_all moment jobs kept kept.next (kept.next + length jobs) refl);
   none = none_then moment kept.next kept jobs;
   plain = adds_plain moment kept.next jobs;
   stays = pushes_stay moment jobs kept;
 }
 
-pub pushes_have_numbers : (moment : ℕ) (jobs : List Job) (kept : Kept) → moment ≤ greatest
+pub pushes_have_numbers : (moment : ℕ) (jobs : List Job) (kept : KeptState) → moment ≤ greatest
     → All HasJobSpelling jobs → (all_pushed moment kept jobs).next ≤ greatest_next
     → IsAboveAll kept.next kept.rows → IsWord kept.processed → IsWord kept.failures
     → HasNumbers kept (moves_of_push moment kept.next jobs) (all_pushed moment kept jobs)
 pushes_have_numbers moment jobs kept within spelled room above processed failures =
     let whole = pushed_all moment jobs kept kept.next (kept.next + length jobs) refl in
     let grown : (all_pushed moment kept jobs).next ≡ kept.next + length jobs =
-    ap (λ (k : Kept). k.next) whole in
+    ap (λ (k : KeptState). k.next) whole in
     let numbers = adds_numbers moment jobs kept kept.next in
     let fits : kept.next + length jobs ≤ greatest_next = rw grown at room in
     record {
@@ -191,6 +191,6 @@ pushes_have_numbers moment jobs kept within spelled room above processed failure
         risen = rw (numbers.0, grown) (omega arith);
         above = adds_above moment jobs kept kept.next (all_pushed moment kept jobs).next grown above;
       };
-      processed = rw (ap (λ (k : Kept). k.processed) whole, numbers.1) processed;
-      failures = rw (ap (λ (k : Kept). k.failures) whole, numbers.2) failures;
+      processed = rw (ap (λ (k : KeptState). k.processed) whole, numbers.1) processed;
+      failures = rw (ap (λ (k : KeptState). k.failures) whole, numbers.2) failures;
     }

@@ -12,7 +12,7 @@ use Rattle.fk_model.specs.declared.move_.Move.{Move}
 use Rattle.fk_model.specs.declared.move_.Move.TheVariants.{Drop}
 use Rattle.fk_model.specs.Limits.{greatest_next}
 use Rattle.fk_model.specs.Rows.{ticket_of}
-use Rattle.fk_model.specs.State.{Kept, State}
+use Rattle.fk_model.specs.State.{KeptState, State}
 use Rattle.fk_model.specs.Orders.{first_waiting, leased}
 use Rattle.fk_model.specs.Spellings.{IsText, HasJobSpelling}
 use Rattle.fk_model.specs.Between.{IsWellKept}
@@ -58,7 +58,7 @@ fetch_rows s moment wid None well first = nothing_is_rows s.kept
 fetch_rows s moment wid (Some filed) well first =
     handed_are_rows s.kept moment wid filed well (first filed refl)
 
-ack_rows : (kept : Kept) (found : Option (ℕ × Row))
+ack_rows : (kept : KeptState) (found : Option (ℕ × Row))
     → ((filed : ℕ × Row) → found ≡ Some filed → IsLeased kept filed)
     → AreRowsOf kept (moves_of_ack found) (option_map_or (finished kept) found kept)
 ack_rows kept None held = nothing_is_rows kept
@@ -86,7 +86,7 @@ fetch_numbers s moment wid None well text within room first = nothing_has_number
 fetch_numbers s moment wid (Some filed) well text within room first =
     handed_have_numbers s.kept moment wid filed well text within room (first filed refl)
 
-ack_numbers : (kept : Kept) (found : Option (ℕ × Row)) → IsWellKept kept
+ack_numbers : (kept : KeptState) (found : Option (ℕ × Row)) → IsWellKept kept
     → (option_map_or (finished kept) found kept).next ≤ greatest_next
     → ((filed : ℕ × Row) → found ≡ Some filed → IsLeased kept filed)
     → HasNumbers kept (moves_of_ack found) (option_map_or (finished kept) found kept)

@@ -10,7 +10,7 @@ use Rattle.fk_model.specs.declared.place.Place.TheVariants.{Queued, Scheduled, R
 use Rattle.fk_model.specs.declared.move_.Move.{Move}
 use Rattle.fk_model.specs.declared.move_.Move.TheVariants.{Add, Put, Drop, DropAll, Totals}
 use Rattle.fk_model.specs.Rows.{ticket_of, row_of, row_at}
-use Rattle.fk_model.specs.State.{Kept}
+use Rattle.fk_model.specs.State.{KeptState}
 use Rattle.fk_model.specs.Orders.{number_in, rank_of, rank_in, is_queued, queue, in_order}
 use Rattle.fk_model.specs.Spellings.{HasSpelling}
 use Rattle.fk_model.specs.Changes.{put_row, after_move, after_moves, MayGo, Fits, FitInTurn}
@@ -34,7 +34,7 @@ no_rank (Retry at) not_there = refl
 no_rank (Dead until) not_there = refl
 no_rank (Working wid since until) not_there = refl
 
-after_add : (kept : Kept) (ticket : ℕ) (row : Row) → IsSound kept → Fits kept (Add ticket row)
+after_add : (kept : KeptState) (ticket : ℕ) (row : Row) → IsSound kept → Fits kept (Add ticket row)
     → IsSound (after_move kept (Add ticket row))
 unfolding after_move
 after_add kept ticket row sound fits = record {
@@ -47,7 +47,7 @@ after_add kept ticket row sound fits = record {
   failures = sound.failures;
 }
 
-put_distinct : (kept : Kept) (ticket : ℕ) (enqueued : Option ℕ) (failure : Option Failure)
+put_distinct : (kept : KeptState) (ticket : ℕ) (enqueued : Option ℕ) (failure : Option Failure)
     (place : Place) (row : Row) → IsSound kept → row_at kept.rows ticket ≡ Some row
     → MayGo kept ticket row place → (name : List ℕ)
     → IsStrictlyIncreasing (map number_in
@@ -63,7 +63,7 @@ put_distinct kept ticket enqueued failure place row sound at goes name =
     (unranked name row (no_rank row.place goes.0)) refl
     (comes_last kept (change row) name goes.1) (sound.distinct name)
 
-put_spelled : (kept : Kept) (ticket : ℕ) (enqueued : Option ℕ) (failure : Option Failure)
+put_spelled : (kept : KeptState) (ticket : ℕ) (enqueued : Option ℕ) (failure : Option Failure)
     (place : Place) (row : Row) → IsSound kept → row_at kept.rows ticket ≡ Some row
     → HasSpelling (Put ticket enqueued failure place)
     → HasSpelling (Add ticket (put_row enqueued failure place row))
@@ -72,7 +72,7 @@ put_spelled kept ticket enqueued failure place row sound at spelled =
     ticket row sound.spelled at in
     (spelled.0, record { job = before.1.job; created = before.1.created; rest = spelled.1 })
 
-after_put : (kept : Kept) (ticket : ℕ) (enqueued : Option ℕ) (failure : Option Failure)
+after_put : (kept : KeptState) (ticket : ℕ) (enqueued : Option ℕ) (failure : Option Failure)
     (place : Place) → IsSound kept → Fits kept (Put ticket enqueued failure place)
     → IsSound (after_move kept (Put ticket enqueued failure place))
 unfolding after_move
@@ -89,7 +89,7 @@ after_put kept ticket enqueued failure place sound fits =
       failures = sound.failures;
     }
 
-after_drop : (kept : Kept) (ticket : ℕ) → IsSound kept → IsSound (after_move kept (Drop ticket))
+after_drop : (kept : KeptState) (ticket : ℕ) → IsSound kept → IsSound (after_move kept (Drop ticket))
 unfolding after_move
 after_drop kept ticket sound = record {
   by_ticket = by_ticket_without kept.rows ticket sound.by_ticket;
@@ -100,7 +100,7 @@ after_drop kept ticket sound = record {
   failures = sound.failures;
 }
 
-after_all : (kept : Kept) → IsSound kept → IsSound (after_move kept DropAll)
+after_all : (kept : KeptState) → IsSound kept → IsSound (after_move kept DropAll)
 unfolding after_move in_order
 after_all kept sound = record {
   by_ticket = λ k within. absurd (omega arith);
@@ -110,7 +110,7 @@ after_all kept sound = record {
   failures = sound.failures;
 }
 
-after_totals : (kept : Kept) (next processed failures : ℕ) → IsSound kept
+after_totals : (kept : KeptState) (next processed failures : ℕ) → IsSound kept
     → Fits kept (Totals next processed failures)
     → IsSound (after_move kept (Totals next processed failures))
 unfolding after_move
@@ -123,7 +123,7 @@ after_totals kept next processed failures sound fits = record {
 }
 
 -- a move that fits leaves a sound state
-pub after_one : (kept : Kept) (move : Move) → IsSound kept → Fits kept move → IsSound (after_move kept move)
+pub after_one : (kept : KeptState) (move : Move) → IsSound kept → Fits kept move → IsSound (after_move kept move)
 after_one kept (Add ticket row) sound fits = after_add kept ticket row sound fits
 after_one kept (Put ticket enqueued failure place) sound fits =
     after_put kept ticket enqueued failure place sound fits
@@ -134,7 +134,7 @@ after_one kept (Totals next processed failures) sound fits =
 
 -- ---- one behind the other
 
-pub after_each : (kept : Kept) (moves : List Move) → IsSound kept → FitInTurn kept moves
+pub after_each : (kept : KeptState) (moves : List Move) → IsSound kept → FitInTurn kept moves
     → IsSound (after_moves kept moves)
 unfolding FitInTurn
 after_each kept [] sound fit = sound

@@ -10,7 +10,7 @@ use Rattle.fk_model.specs.declared.row.Row.{Row}
 use Rattle.fk_model.specs.declared.place.Place.{Place}
 use Rattle.fk_model.specs.declared.place.Place.TheVariants.{Queued, Scheduled, Retry, Dead, Working}
 use Rattle.fk_model.specs.Rows.{ticket_of, row_of, IsByTicket, filed_at, row_at}
-use Rattle.fk_model.specs.State.{Kept}
+use Rattle.fk_model.specs.State.{KeptState}
 use Rattle.fk_model.specs.Orders.{number_in, ticket_in, rank_of, rank_in, is_queued, is_working, queue, working, first_waiting, leased}
 use Rattle.fk_model.specs.Changes.{IsFirstOf}
 use Rattle.fk_model.proofs.Finding.{find_passes, find_holds}
@@ -35,7 +35,7 @@ first_of_some f (x ∷ xs) first at =
 -- ---- the first row that waits
 
 -- a row that may be fetched: it stands under its ticket, waits, and is the first of its queue
-pub record IsFirstRow (kept : Kept) (filed : ℕ × Row) : Type 0 where
+pub record IsFirstRow (kept : KeptState) (filed : ℕ × Row) : Type 0 where
   pub stands : row_at kept.rows (ticket_of filed) ≡ Some (row_of filed)
   pub rank : ℕ
   pub waits : rank_of (row_of filed).place ≡ Some rank
@@ -47,7 +47,7 @@ rank_there : (own name : List ℕ) (given : Option ℕ) (rank : ℕ) (test : Boo
 rank_there own name given rank true same at = ((bytes_eq-Decides own name).0 same, at)
 rank_there own name given rank false same at = absurd (cc)
 
-first_row : (kept : Kept) (name : List ℕ) (pair : ℕ × ℕ) (filed : ℕ × Row)
+first_row : (kept : KeptState) (name : List ℕ) (pair : ℕ × ℕ) (filed : ℕ × Row)
     → slice_get (queue kept.rows name) 0 ≡ Some pair
     → filed_at kept.rows (ticket_in pair) ≡ Some filed
     → IsNumberOf (rank_in name) kept.rows pair → IsFirstRow kept filed
@@ -73,7 +73,7 @@ of_first P [] first each at = absurd (cc)
 of_first P (x ∷ xs) first each at =
     let same : x ≡ first = same_Some x first at in rw (← same) (All-head P x xs each)
 
-found_there : (kept : Kept) (names : List (List ℕ)) (filed : ℕ × Row) (ahead : Option (ℕ × ℕ))
+found_there : (kept : KeptState) (names : List (List ℕ)) (filed : ℕ × Row) (ahead : Option (ℕ × ℕ))
     → IsByTicket kept.rows → slice_get (flat_map (queue kept.rows) names) 0 ≡ ahead
     → option_and_then (λ (pair : ℕ × ℕ). filed_at kept.rows (ticket_in pair)) ahead ≡ Some filed
     → IsFirstRow kept filed
@@ -85,18 +85,18 @@ found_there kept names filed (Some pair) by_ticket e at =
     (each_number (rank_in there.0) kept.rows by_ticket) there.1)
 
 -- the first row that waits in some queues may be fetched
-pub first_waiting_is : (kept : Kept) (names : List (List ℕ)) (filed : ℕ × Row) → IsByTicket kept.rows
+pub first_waiting_is : (kept : KeptState) (names : List (List ℕ)) (filed : ℕ × Row) → IsByTicket kept.rows
     → first_waiting kept names ≡ Some filed → IsFirstRow kept filed
 first_waiting_is kept names filed by_ticket at =
     found_there kept names filed (slice_get (flat_map (queue kept.rows) names) 0) by_ticket refl at
 
 -- ---- a row that a worker has
 
-pub record IsLeased (kept : Kept) (filed : ℕ × Row) : Type 0 where
+pub record IsLeased (kept : KeptState) (filed : ℕ × Row) : Type 0 where
   pub stands : row_at kept.rows (ticket_of filed) ≡ Some (row_of filed)
   pub with_worker : is_working (row_of filed).place ≡ true
 
-pub leased_is : (kept : Kept) (jid : List ℕ) (filed : ℕ × Row) → IsByTicket kept.rows
+pub leased_is : (kept : KeptState) (jid : List ℕ) (filed : ℕ × Row) → IsByTicket kept.rows
     → leased kept jid ≡ Some filed → IsLeased kept filed
 leased_is kept jid filed by_ticket at = record {
   stands = ap (option_map row_of)

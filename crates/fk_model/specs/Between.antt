@@ -7,7 +7,7 @@ use Rattle.fk_model.specs.declared.move_.Move.TheVariants.{Add}
 use Rattle.fk_model.specs.Rows.{ticket_of, row_of, IsByTicket}
 use Rattle.fk_model.specs.Orders.{number_in, rank_of, queue}
 use Rattle.fk_model.specs.Spellings.{IsWord, HasSpelling}
-use Rattle.fk_model.specs.State.{Kept, State}
+use Rattle.fk_model.specs.State.{KeptState, State}
 
 -- a number is above every ticket and every rank
 pub record IsAboveAll (next : ℕ) (rows : List (ℕ × Row)) : Type 0 where
@@ -16,7 +16,7 @@ pub record IsAboveAll (next : ℕ) (rows : List (ℕ × Row)) : Type 0 where
 
 -- What holds of the kept state: the rows are in order of ticket, the next number is above all
 -- tickets and ranks, the ranks of a queue are distinct, and each row and count can be written.
-pub record IsWellKept (kept : Kept) : Type 0 where
+pub record IsWellKept (kept : KeptState) : Type 0 where
   pub by_ticket : IsByTicket kept.rows
   pub above : IsAboveAll kept.next kept.rows
   pub distinct : (name : List ℕ) → IsStrictlyIncreasing (map number_in (queue kept.rows name))

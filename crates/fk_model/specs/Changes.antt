@@ -8,7 +8,7 @@ use Rattle.fk_model.specs.declared.move_.Move.{Move}
 use Rattle.fk_model.specs.declared.move_.Move.TheVariants.{Add, Put, Drop, DropAll, Totals}
 use Rattle.fk_model.specs.Limits.{greatest_next}
 use Rattle.fk_model.specs.Rows.{row_at, with_row, with_changed, without_row}
-use Rattle.fk_model.specs.State.{Kept}
+use Rattle.fk_model.specs.State.{KeptState}
 use Rattle.fk_model.specs.Orders.{number_in, ticket_in, is_queued, queue}
 use Rattle.fk_model.specs.Spellings.{HasSpelling}
 use Rattle.fk_model.specs.Between.{IsAboveAll}
@@ -24,7 +24,7 @@ put_row enqueued failure place row =
     }
 
 -- the kept state after a move
-unfoldable pub after_move : Kept → Move → Kept
+unfoldable pub after_move : KeptState → Move → KeptState
 after_move kept (Add ticket row) = record kept { rows = with_row kept.rows ticket row }
 after_move kept (Put ticket enqueued failure place) =
     record kept { rows = with_changed kept.rows ticket (put_row enqueued failure place) }
@@ -34,40 +34,40 @@ after_move kept (Totals next processed failures) =
     record kept { next = next; processed = processed; failures = failures }
 
 -- the kept state after one move behind the other
-abbrev pub after_moves : Kept → List Move → Kept
+abbrev pub after_moves : KeptState → List Move → KeptState
 after_moves kept moves = fold after_move kept moves
 
 -- ---- which of them fit
 
 -- a rank is above all ranks of a queue
-abbrev pub IsBehindQueue : Kept → List ℕ → ℕ → Type 0
+abbrev pub IsBehindQueue : KeptState → List ℕ → ℕ → Type 0
 IsBehindQueue kept name rank = All (λ pair. number_in pair < rank) (queue kept.rows name)
 
 -- the ticket is the first of a queue
-abbrev pub IsFirstOf : Kept → List ℕ → ℕ → Type 0
+abbrev pub IsFirstOf : KeptState → List ℕ → ℕ → Type 0
 IsFirstOf kept name ticket =
     option_map ticket_in (slice_get (queue kept.rows name) 0) ≡ Some ticket
 
 -- a place in a queue is behind all others
-abbrev pub ComesLast : Kept → List ℕ → Place → Type 0
+abbrev pub ComesLast : KeptState → List ℕ → Place → Type 0
 ComesLast kept name (Queued rank) = IsBehindQueue kept name rank
 ComesLast kept name elsewhere = Unit {0}
 
 -- A row may go to a place: to a worker from the front of its queue, and from elsewhere than a queue
 -- to the end of its queue or to any other place.
-abbrev pub MayGo : Kept → ℕ → Row → Place → Type 0
+abbrev pub MayGo : KeptState → ℕ → Row → Place → Type 0
 MayGo kept ticket row (Working wid since until) = IsFirstOf kept row.job.queue ticket
 MayGo kept ticket row place =
     (¬ IsTrue (is_queued row.place)) × ComesLast kept row.job.queue place
 
 -- a Totals has a next number within its limit, which doesn't fall and is above all tickets and ranks
-pub record IsNextNumber (kept : Kept) (next : ℕ) : Type 0 where
+pub record IsNextNumber (kept : KeptState) (next : ℕ) : Type 0 where
   pub within : next ≤ greatest_next
   pub risen : kept.next ≤ next
   pub above : IsAboveAll next kept.rows
 
 -- what a move asks of the kept state
-abbrev pub IsAllowed : Kept → Move → Type 0
+abbrev pub IsAllowed : KeptState → Move → Type 0
 IsAllowed kept (Add ticket row) =
     (row_at kept.rows ticket ≡ None) × ComesLast kept row.job.queue row.place
 IsAllowed kept (Put ticket enqueued failure place) =
@@ -78,17 +78,17 @@ IsAllowed kept DropAll = Unit {0}
 IsAllowed kept (Totals next processed failures) = IsNextNumber kept next
 
 -- a move fits: it has a spelling, and the kept state allows it
-pub record Fits (kept : Kept) (move : Move) : Type 0 where
+pub record Fits (kept : KeptState) (move : Move) : Type 0 where
   pub spelled : HasSpelling move
   pub allowed : IsAllowed kept move
 
 -- each move fits the state that those before it leave
-unfoldable pub FitInTurn : Kept → List Move → Type 0
+unfoldable pub FitInTurn : KeptState → List Move → Type 0
 FitInTurn kept [] = Unit {0}
 FitInTurn kept (move ∷ moves) = Fits kept move × FitInTurn (after_move kept move) moves
 
 -- the moves lead from one kept state to another
-pub record Lead (from : Kept) (moves : List Move) (to : Kept) : Type 0 where
+pub record Lead (from : KeptState) (moves : List Move) (to : KeptState) : Type 0 where
   pub fit : FitInTurn from moves
   pub come : to ≡ after_moves from moves
 

@@ -28,12 +28,12 @@ left_by Full state effect = state
 left_by DiskFault state effect = state
 
 -- the next state
-unfoldable pub next : State → Entry → State
-next state entry = left_by entry.answer state (turn_of state entry)
+unfoldable pub next_state : State → Entry → State
+next_state state entry = left_by entry.answer state (turn_of state entry)
 
 -- the state after a history
-abbrev pub after : State → List Entry → State
-after state entries = fold next state entries
+abbrev pub state_after : State → List Entry → State
+state_after state entries = fold next_state state entries
 
 -- ---- what makes an entry right
 
@@ -42,8 +42,8 @@ abbrev pub IsOverLimit : State → Ask → ℕ → ℕ → Type 0
 IsOverLimit state ask moment word = greatest_next < (turn state ask moment word).state.kept.next
 
 -- the turn of an entry would be
-abbrev pub IsOver : State → Entry → Type 0
-IsOver state entry = IsOverLimit state entry.ask entry.told.moment entry.told.word
+abbrev pub EntryIsOverLimit : State → Entry → Type 0
+EntryIsOverLimit state entry = IsOverLimit state entry.ask entry.told.moment entry.told.word
 
 -- what is told of a turn: a moment below the greatest, a word of 64 bits, and, as long as there is no
 -- disk, neither a fault nor a compaction
@@ -58,9 +58,9 @@ pub record IsTold (told : Told) : Type 0 where
 -- it is. Memory may run out in any turn, and there is no disk yet.
 abbrev pub IsRightAnswer : State → Entry → Answer → Type 0
 IsRightAnswer state entry (Said reply) =
-    (¬ IsOver state entry) × (reply ≡ (turn_of state entry).reply)
+    (¬ EntryIsOverLimit state entry) × (reply ≡ (turn_of state entry).reply)
 IsRightAnswer state entry NoMemory = Unit {0}
-IsRightAnswer state entry Full = IsOver state entry
+IsRightAnswer state entry Full = EntryIsOverLimit state entry
 IsRightAnswer state entry DiskFault = ⊥
 
 -- an entry is right in a state: its ask is one that a turn may be made of, what is told of the turn is
@@ -73,7 +73,7 @@ pub record IsRight (state : State) (entry : Entry) : Type 0 where
 -- a step: the entry is right, and leads from one state to the other
 pub record IsStep (state : State) (entry : Entry) (after_state : State) : Type 0 where
   pub right : IsRight state entry
-  pub leads : after_state ≡ next state entry
+  pub leads : after_state ≡ next_state state entry
 
 -- ---- histories
 
@@ -87,7 +87,7 @@ unfoldable pub IsLegalFrom : State → ℕ → List Entry → Type 0
 IsLegalFrom state faults [] = Unit {0}
 IsLegalFrom state faults (entry ∷ entries) =
     IsRight state entry × (faults ≤ entry.told.before)
-    × IsLegalFrom (next state entry) entry.told.after entries
+    × IsLegalFrom (next_state state entry) entry.told.after entries
 
 -- a history is legal from a state on
 abbrev pub IsLegal : State → List Entry → Type 0

@@ -8,7 +8,7 @@ use Rattle.fk_model.specs.declared.work_state.WorkState.{WorkState}
 use Rattle.fk_model.specs.declared.work_state.WorkState.TheVariants.{Running, Quiet, Terminate}
 use Rattle.fk_model.specs.Limits.{raised, later_by, second_length}
 use Rattle.fk_model.specs.Rows.{ticket_of, with_row, with_changed, without_row}
-use Rattle.fk_model.specs.State.{Kept, Worker, State}
+use Rattle.fk_model.specs.State.{KeptState, Worker, State}
 use Rattle.fk_model.specs.Orders.{first_waiting}
 
 -- ---- a job is pushed
@@ -38,7 +38,7 @@ pushed_row moment ticket job =
     }
 
 -- the row of a job stands under the next ticket
-abbrev pub pushed : ℕ → Kept → Job → Kept
+abbrev pub pushed : ℕ → KeptState → Job → KeptState
 pushed moment kept job =
     record kept {
       rows = with_row kept.rows kept.next (pushed_row moment kept.next job);
@@ -46,7 +46,7 @@ pushed moment kept job =
     }
 
 -- each job is pushed, in order
-abbrev pub all_pushed : ℕ → Kept → List Job → Kept
+abbrev pub all_pushed : ℕ → KeptState → List Job → KeptState
 all_pushed moment kept jobs = fold (pushed moment) kept jobs
 
 -- ---- a job is fetched
@@ -74,14 +74,14 @@ reserved_row moment wid row =
     }
 
 -- the row of a ticket is with a worker
-abbrev pub reserved : ℕ → List ℕ → Kept → ℕ → Kept
+abbrev pub reserved : ℕ → List ℕ → KeptState → ℕ → KeptState
 reserved moment wid kept ticket =
     record kept { rows = with_changed kept.rows ticket (reserved_row moment wid) }
 
 -- ---- a job was done
 
 -- its row leaves
-abbrev pub finished : Kept → ℕ × Row → Kept
+abbrev pub finished : KeptState → ℕ × Row → KeptState
 finished kept filed =
     record kept {
       rows = without_row kept.rows (ticket_of filed);

@@ -9,7 +9,7 @@ use Rattle.fk_model.specs.declared.row.Row.{Row}
 use Rattle.fk_model.specs.declared.ask.Ask.{Ask}
 use Rattle.fk_model.specs.declared.ask.Ask.TheVariants.{Push, PushBatch, Fetch, Ack}
 use Rattle.fk_model.specs.Rows.{ticket_of, row_of}
-use Rattle.fk_model.specs.State.{Kept, State}
+use Rattle.fk_model.specs.State.{KeptState, State}
 use Rattle.fk_model.specs.Orders.{leased}
 use Rattle.fk_model.specs.Requests.{is_later, pushed, all_pushed, fetched, reserved, finished}
 
@@ -29,7 +29,7 @@ abbrev pub only_said : State → Reply → Effect
 only_said state reply = record { state = state; reply = reply }
 
 -- this is kept, and this is said
-abbrev pub kept_and_said : State → Kept → Reply → Effect
+abbrev pub kept_and_said : State → KeptState → Reply → Effect
 kept_and_said state kept reply = record { state = record state { kept = kept }; reply = reply }
 
 -- a row is handed out: it is with the worker, who gets its text

@@ -8,7 +8,7 @@ use Rattle.fk_model.specs.declared.ask.Ask.TheVariants.{Push, PushBatch, Fetch, 
 use Rattle.fk_model.specs.declared.move_.Move.{Move}
 use Rattle.fk_model.specs.declared.move_.Move.TheVariants.{Add, Put, Drop, Totals}
 use Rattle.fk_model.specs.Rows.{ticket_of, row_of}
-use Rattle.fk_model.specs.State.{Kept, State}
+use Rattle.fk_model.specs.State.{KeptState, State}
 use Rattle.fk_model.specs.Orders.{leased}
 use Rattle.fk_model.specs.Requests.{pushed_row, reserved_row, fetched}
 use Rattle.fk_model.specs.Said.{Effect, is_served, said}
@@ -39,7 +39,7 @@ move_to ticket row = Put ticket row.stamp.enqueued row.stamp.failure row.place
 
 -- what a request changes, row by row, in a state that was brought up to date from another kept state,
 -- which no request of today looks at; the last line goes with the last request
-unfoldable pub moves_of : Kept → State → Ask → ℕ → ℕ → List Move
+unfoldable pub moves_of : KeptState → State → Ask → ℕ → ℕ → List Move
 moves_of before state (Push job) moment word = moves_of_push moment state.kept.next (job ∷ [])
 moves_of before state (PushBatch jobs told) moment word = moves_of_push moment state.kept.next jobs
 moves_of before state (Fetch wid queues) moment word =
@@ -50,16 +50,16 @@ moves_of before state (Ack jid) moment word =
 moves_of before state other moment word = []
 
 -- the moves of what is said: a request that isn't served yet has none
-abbrev pub moves_said : Kept → State → Ask → ℕ → ℕ → List Move
+abbrev pub moves_said : KeptState → State → Ask → ℕ → ℕ → List Move
 moves_said before state ask moment word =
     if is_served moment ask then moves_of before state ask moment word else []
 
 -- the numbers of a kept state
-abbrev pub totals : Kept → Move
+abbrev pub totals : KeptState → Move
 totals kept = Totals kept.next kept.processed kept.failures
 
 -- moves that change a row, and behind them the numbers at the end
-abbrev pub closed : List Move → Kept → List Move
+abbrev pub closed : List Move → KeptState → List Move
 closed [] kept = []
 closed (move ∷ moves) kept = (move ∷ moves) ++ totals kept ∷ []
 

@@ -9,7 +9,7 @@ ghost use Rattle.fk_model.specs.State.{State};
 ghost use Rattle.fk_model.specs.Orders.{comes_before, in_order};
 ghost use Rattle.fk_model.specs.Turns.{turn};
 ghost use Rattle.fk_model.specs.Answers.{IsToldApart};
-ghost use Rattle.fk_model.specs.History.{after, faults_after, IsLegalFrom};
+ghost use Rattle.fk_model.specs.History.{state_after, faults_after, IsLegalFrom};
 ghost use Rattle.fk_model.specs.Out.{own_replies};
 ghost use Rattle.fk_model.specs.Script.{IsScript};
 
@@ -26,12 +26,12 @@ pub fn pairs_are_sorted()
 /// after its first, and so is the count of faults.
 pub fn a_history_goes_on()
     ensures state { (s : State) (front back : List AnEntry)
-        → after s (front ++ back) ≡ after (after s front) back }
+        → state_after s (front ++ back) ≡ state_after (state_after s front) back }
     ensures faults { (n : ℕ) (front back : List AnEntry)
         → faults_after n (front ++ back) ≡ faults_after (faults_after n front) back }
     ensures legal { (s : State) (n : ℕ) (front back : List AnEntry)
         → (IsLegalFrom s n (front ++ back)
-        ↔ (IsLegalFrom s n front × IsLegalFrom (after s front) (faults_after n front) back)) }
+        ↔ (IsLegalFrom s n front × IsLegalFrom (state_after s front) (faults_after n front) back)) }
 {}
 
 /// What a turn says, and what a script replies of its own, is never taken for the answer of a turn that

@@ -9,7 +9,7 @@ use Rattle.fk_model.specs.declared.move_.Move.{Move}
 use Rattle.fk_model.specs.declared.move_.Move.TheVariants.{Drop, Totals}
 use Rattle.fk_model.specs.Limits.{raised}
 use Rattle.fk_model.specs.Rows.{ticket_of}
-use Rattle.fk_model.specs.State.{Kept}
+use Rattle.fk_model.specs.State.{KeptState}
 use Rattle.fk_model.specs.Orders.{leased}
 use Rattle.fk_model.specs.Requests.{finished}
 use Rattle.fk_model.specs.Said.{ok, effect_of}
@@ -18,31 +18,31 @@ use Rattle.fk_plan.specs.Plans.{IsPlan}
 use Rattle.fk_plan.proofs.Served.{served_planned}
 
 -- the moves of the row that leaves, if one does
-abbrev ended : Kept → Option (ℕ × Row) → List Move
+abbrev ended : KeptState → Option (ℕ × Row) → List Move
 ended kept found =
     closed (map (λ filed. Drop (ticket_of filed)) (option_to_list found))
     (option_map_or (finished kept) found kept)
 
-none_ends : (kept : Kept) (found : Option (ℕ × Row)) → None ≡ option_map ticket_of found
+none_ends : (kept : KeptState) (found : Option (ℕ × Row)) → None ≡ option_map ticket_of found
     → [] ≡ ended kept found
 none_ends kept None none = refl
 none_ends kept (Some filed) none = absurd (cc)
 
-one_ends : (kept : Kept) (found : Option (ℕ × Row)) (ticket : ℕ)
+one_ends : (kept : KeptState) (found : Option (ℕ × Row)) (ticket : ℕ)
     → Some ticket ≡ option_map ticket_of found
     → Drop ticket ∷ Totals kept.next (raised kept.processed) kept.failures ∷ [] ≡ ended kept found
 one_ends kept None ticket one = absurd (cc)
 one_ends kept (Some filed) ticket one = rw (same_Some ticket (ticket_of filed) one) refl
 
 -- no worker has a row of the jid
-pub none_acknowledged : (kept : Kept) (jid : List ℕ) (moment word : ℕ)
+pub none_acknowledged : (kept : KeptState) (jid : List ℕ) (moment word : ℕ)
     → None ≡ option_map ticket_of (leased kept jid) → IsPlan kept (Ack jid) moment word ok []
 unfolding effect_of moves_of
 none_acknowledged kept jid moment word none =
     served_planned kept (Ack jid) moment word ok [] refl refl (none_ends kept (leased kept jid) none)
 
 -- the row of a ticket leaves
-pub one_acknowledged : (kept : Kept) (jid : List ℕ) (moment word ticket : ℕ)
+pub one_acknowledged : (kept : KeptState) (jid : List ℕ) (moment word ticket : ℕ)
     → Some ticket ≡ option_map ticket_of (leased kept jid)
     → IsPlan kept (Ack jid) moment word ok
     (Drop ticket ∷ Totals kept.next (raised kept.processed) kept.failures ∷ [])

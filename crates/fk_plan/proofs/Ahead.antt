@@ -5,7 +5,7 @@ use Rattle.std.specs.Prelude.{Option, None, Some, option_map, option_and_then, s
 use Rattle.std.proofs.lemmas.Option.{slice_get_within, get_or_from_slice_get}
 use Rattle.fk_model.specs.declared.row.Row.{Row}
 use Rattle.fk_model.specs.Rows.{ticket_of, IsByTicket, filed_at, row_at}
-use Rattle.fk_model.specs.State.{Kept}
+use Rattle.fk_model.specs.State.{KeptState}
 use Rattle.fk_model.specs.Orders.{ticket_in, number_in, rank_in, queue, first_waiting}
 use Rattle.fk_model.proofs.Lookups.{filed_from_row}
 use Rattle.fk_model.proofs.Standing.{IsNumberOf, each_number}
@@ -19,7 +19,7 @@ found_ticket ticket rank number None e = absurd (cc)
 found_ticket ticket rank number (Some row) e = refl
 
 -- the first of a queue stands under its ticket
-stands_first : (kept : Kept) (name : List ℕ) (pair : ℕ × ℕ) → IsByTicket kept.rows
+stands_first : (kept : KeptState) (name : List ℕ) (pair : ℕ × ℕ) → IsByTicket kept.rows
     → slice_get (queue kept.rows name) 0 ≡ Some pair
     → option_map ticket_of (filed_at kept.rows (ticket_in pair)) ≡ Some (ticket_in pair)
 stands_first kept name pair by_ticket at =
@@ -38,7 +38,7 @@ head_of_both : {X : Type 0} (xs ys : List X) (x : X) → slice_get xs 0 ≡ Some
 head_of_both [] ys x at = absurd (cc)
 head_of_both (z ∷ xs) ys x at = at
 
-here_by : (kept : Kept) (name : List ℕ) (names : List (List ℕ)) (ticket : ℕ)
+here_by : (kept : KeptState) (name : List ℕ) (names : List (List ℕ)) (ticket : ℕ)
     (ahead : Option (ℕ × ℕ)) → IsByTicket kept.rows → slice_get (queue kept.rows name) 0 ≡ ahead
     → Some ticket ≡ option_map ticket_in ahead
     → Some ticket ≡ option_map ticket_of (first_waiting kept (name ∷ names))
@@ -48,7 +48,7 @@ here_by kept name names ticket (Some pair) by_ticket at one =
     (one ∙ sym (stands_first kept name pair by_ticket at))
 
 -- the first queue has a row
-waits_here : (kept : Kept) (name : List ℕ) (names : List (List ℕ)) (ticket : ℕ)
+waits_here : (kept : KeptState) (name : List ℕ) (names : List (List ℕ)) (ticket : ℕ)
     → IsByTicket kept.rows → Some ticket ≡ option_map ticket_in (slice_get (queue kept.rows name) 0)
     → Some ticket ≡ option_map ticket_of (first_waiting kept (name ∷ names))
 waits_here kept name names ticket by_ticket one =
@@ -60,7 +60,7 @@ none_of_both f [] ys none = refl
 none_of_both f (x ∷ xs) ys none = absurd (cc)
 
 -- it has none
-waits_behind : (kept : Kept) (name : List ℕ) (names : List (List ℕ))
+waits_behind : (kept : KeptState) (name : List ℕ) (names : List (List ℕ))
     → None ≡ option_map ticket_in (slice_get (queue kept.rows name) 0)
     → first_waiting kept (name ∷ names) ≡ first_waiting kept names
 waits_behind kept name names none =
@@ -74,7 +74,7 @@ left_from names at name within here =
     rw add-one (drop-cons names at name within ∙ ap (λ n. n ∷ drop (suc at) names) (sym here))
 
 -- the queue at a place has a row
-pub waits_at : (kept : Kept) (names : List (List ℕ)) (at : ℕ) (name : List ℕ) (ticket : ℕ)
+pub waits_at : (kept : KeptState) (names : List (List ℕ)) (at : ℕ) (name : List ℕ) (ticket : ℕ)
     → IsByTicket kept.rows → at < length names → name ≡ get_or names at name
     → Some ticket ≡ option_map ticket_in (slice_get (queue kept.rows name) 0)
     → Some ticket ≡ option_map ticket_of (first_waiting kept (drop at names))
@@ -83,7 +83,7 @@ waits_at kept names at name ticket by_ticket within here one =
     (waits_here kept name (drop (at + 1) names) ticket by_ticket one)
 
 -- it has none
-pub waits_past : (kept : Kept) (names : List (List ℕ)) (at : ℕ) (name : List ℕ)
+pub waits_past : (kept : KeptState) (names : List (List ℕ)) (at : ℕ) (name : List ℕ)
     → at < length names → name ≡ get_or names at name
     → None ≡ option_map ticket_in (slice_get (queue kept.rows name) 0)
     → first_waiting kept (drop (at + 1) names) ≡ first_waiting kept (drop at names)

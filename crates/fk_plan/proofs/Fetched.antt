@@ -12,7 +12,7 @@ use Rattle.fk_model.specs.declared.ask.Ask.TheVariants.{Fetch}
 use Rattle.fk_model.specs.declared.move_.Move.{Move}
 use Rattle.fk_model.specs.declared.move_.Move.TheVariants.{Add, Totals}
 use Rattle.fk_model.specs.Rows.{ticket_of, row_of, row_at}
-use Rattle.fk_model.specs.State.{Kept, State, without_workers}
+use Rattle.fk_model.specs.State.{KeptState, State, without_workers}
 use Rattle.fk_model.specs.Spellings.{HasRowSpelling, HasSpelling}
 use Rattle.fk_model.specs.Between.{IsWellKept}
 use Rattle.fk_model.specs.Orders.{first_waiting}
@@ -26,14 +26,14 @@ use Rattle.fk_plan.proofs.Served.{served_planned}
 
 -- ---- a row that stands under a ticket
 
-row_spelled : (kept : Kept) (ticket : ℕ) (row : Row) → IsWellKept kept
+row_spelled : (kept : KeptState) (ticket : ℕ) (row : Row) → IsWellKept kept
     → Some row ≡ row_at kept.rows ticket → HasRowSpelling row
 row_spelled kept ticket row well at =
     let spelled = row_holds (λ x. HasSpelling (Add (ticket_of x) (row_of x))) kept.rows ticket row
     well.spelled (sym at) in spelled.1
 
 -- its moments can be written
-pub row_has_moments : (kept : Kept) (ticket : ℕ) (row : Row) → IsWellKept kept
+pub row_has_moments : (kept : KeptState) (ticket : ℕ) (row : Row) → IsWellKept kept
     → Some row ≡ row_at kept.rows ticket → HasMoments row.stamp
 row_has_moments kept ticket row well at =
     let spelled = row_spelled kept ticket row well at in
@@ -45,7 +45,7 @@ row_has_moments kept ticket row well at =
     }
 
 -- its job says for how long a worker may have it, within the bound
-pub row_has_bound : (kept : Kept) (ticket : ℕ) (row : Row) → IsWellKept kept
+pub row_has_bound : (kept : KeptState) (ticket : ℕ) (row : Row) → IsWellKept kept
     → Some row ≡ row_at kept.rows ticket → row.job.reserve_for ≤ most_reserve
 row_has_bound kept ticket row well at =
     let spelled = row_spelled kept ticket row well at in spelled.job.most
@@ -61,33 +61,33 @@ moved moment wid found =
     map (λ filed. move_to (ticket_of filed) (reserved_row moment wid (row_of filed)))
     (option_to_list found)
 
-record IsHanded (kept : Kept) (moment : ℕ) (wid : List ℕ) (found : Option (ℕ × Row))
+record IsHanded (kept : KeptState) (moment : ℕ) (wid : List ℕ) (found : Option (ℕ × Row))
     (reply : Reply) (moves : List Move) : Type 0 where
   said : reply ≡ (handed (without_workers kept) moment wid found).reply
   made : moves
       ≡ closed (moved moment wid found) (handed (without_workers kept) moment wid found).state.kept
 
-planned : (kept : Kept) (wid : List ℕ) (queues : List (List ℕ)) (moment word : ℕ) (reply : Reply)
+planned : (kept : KeptState) (wid : List ℕ) (queues : List (List ℕ)) (moment word : ℕ) (reply : Reply)
     (moves : List Move) → IsHanded kept moment wid (first_waiting kept queues) reply moves
     → IsPlan kept (Fetch wid queues) moment word reply moves
 unfolding effect_of moves_of
 planned kept wid queues moment word reply moves is =
     served_planned kept (Fetch wid queues) moment word reply moves refl is.said is.made
 
-none_handed : (kept : Kept) (moment : ℕ) (wid : List ℕ) (found : Option (ℕ × Row))
+none_handed : (kept : KeptState) (moment : ℕ) (wid : List ℕ) (found : Option (ℕ × Row))
     → None ≡ option_map ticket_of found → IsHanded kept moment wid found Nil []
 none_handed kept moment wid None none = record { said = refl; made = refl }
 none_handed kept moment wid (Some filed) none = absurd (cc)
 
 -- no row waits
-pub none_fetched : (kept : Kept) (wid : List ℕ) (queues : List (List ℕ)) (moment word : ℕ)
+pub none_fetched : (kept : KeptState) (wid : List ℕ) (queues : List (List ℕ)) (moment word : ℕ)
     → None ≡ option_map ticket_of (first_waiting kept queues)
     → IsPlan kept (Fetch wid queues) moment word Nil []
 none_fetched kept wid queues moment word none =
     planned kept wid queues moment word Nil []
     (none_handed kept moment wid (first_waiting kept queues) none)
 
-one_handed : (kept : Kept) (queues : List (List ℕ)) (moment : ℕ) (wid : List ℕ) (ticket : ℕ)
+one_handed : (kept : KeptState) (queues : List (List ℕ)) (moment : ℕ) (wid : List ℕ) (ticket : ℕ)
     (row : Row) (found : Option (ℕ × Row)) → IsWellKept kept → first_waiting kept queues ≡ found
     → Some ticket ≡ option_map ticket_of found → Some row ≡ row_at kept.rows ticket
     → IsHanded kept moment wid found (Bulk (row_text row.job row.stamp))
@@ -102,7 +102,7 @@ one_handed kept queues moment wid ticket row (Some filed) well at one here =
     rw (own, same) (record { said = refl; made = refl })
 
 -- the row of a ticket is handed out
-pub one_fetched : (kept : Kept) (wid : List ℕ) (queues : List (List ℕ)) (moment word ticket : ℕ)
+pub one_fetched : (kept : KeptState) (wid : List ℕ) (queues : List (List ℕ)) (moment word ticket : ℕ)
     (row : Row) → IsWellKept kept → Some ticket ≡ option_map ticket_of (first_waiting kept queues)
     → Some row ≡ row_at kept.rows ticket
     → IsPlan kept (Fetch wid queues) moment word (Bulk (row_text row.job row.stamp))
@@ -114,7 +114,7 @@ one_fetched kept wid queues moment word ticket row well one here =
     ∷ Totals kept.next kept.processed kept.failures ∷ [])
     (one_handed kept queues moment wid ticket row (first_waiting kept queues) well refl one here)
 
-no_row : (kept : Kept) (queues : List (List ℕ)) (ticket : ℕ) (found : Option (ℕ × Row))
+no_row : (kept : KeptState) (queues : List (List ℕ)) (ticket : ℕ) (found : Option (ℕ × Row))
     → IsWellKept kept → first_waiting kept queues ≡ found
     → Some ticket ≡ option_map ticket_of found → None ≡ row_at kept.rows ticket → ⊥
 no_row kept queues ticket None well at one none = absurd (cc)
@@ -125,7 +125,7 @@ no_row kept queues ticket (Some filed) well at one none =
     absurd (cc)
 
 -- the row of the first ticket stands
-pub row_stands : (kept : Kept) (queues : List (List ℕ)) (ticket : ℕ) → IsWellKept kept
+pub row_stands : (kept : KeptState) (queues : List (List ℕ)) (ticket : ℕ) → IsWellKept kept
     → Some ticket ≡ option_map ticket_of (first_waiting kept queues)
     → None ≡ row_at kept.rows ticket → ⊥
 row_stands kept queues ticket well one none =

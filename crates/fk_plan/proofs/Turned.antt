@@ -5,7 +5,7 @@ use Rattle.fk_time.specs.Moments.{greatest}
 use Rattle.fk_frame.specs.declared.reply.Reply.{Reply}
 use Rattle.fk_model.specs.declared.ask.Ask.{Ask}
 use Rattle.fk_model.specs.declared.move_.Move.{Move}
-use Rattle.fk_model.specs.State.{Kept, without_workers}
+use Rattle.fk_model.specs.State.{KeptState, without_workers}
 use Rattle.fk_model.specs.Between.{IsWellKept, IsBetweenTurns}
 use Rattle.fk_model.specs.Range.{IsInRange}
 use Rattle.fk_model.specs.Changes.{Lead}
@@ -15,11 +15,11 @@ use Rattle.fk_model.proofs.Turning.{turn_leads, turn_stays}
 use Rattle.fk_plan.specs.Plans.{IsPlan}
 
 -- without workers a well kept state is one between turns
-alone : (kept : Kept) → IsWellKept kept → IsBetweenTurns (without_workers kept)
+alone : (kept : KeptState) → IsWellKept kept → IsBetweenTurns (without_workers kept)
 unfolding IsDistinct
 alone kept well = record { kept = well; names = tt }
 
-pub plan_leads : (kept : Kept) (ask : Ask) (moment word : ℕ) (reply : Reply) (moves : List Move)
+pub plan_leads : (kept : KeptState) (ask : Ask) (moment word : ℕ) (reply : Reply) (moves : List Move)
     → IsPlan kept ask moment word reply moves → IsWellKept kept → IsInRange ask → moment < greatest
     → ¬ IsOverLimit (without_workers kept) ask moment word
     → Lead kept moves (turn (without_workers kept) ask moment word).state.kept
@@ -27,7 +27,7 @@ plan_leads kept ask moment word reply moves planned well range told within =
     rw planned.made
     (turn_leads (without_workers kept) ask moment word (alone kept well) range told within)
 
-pub plan_stays : (kept : Kept) (ask : Ask) (moment word : ℕ) (reply : Reply) (moves : List Move)
+pub plan_stays : (kept : KeptState) (ask : Ask) (moment word : ℕ) (reply : Reply) (moves : List Move)
     → IsPlan kept ask moment word reply moves → IsWellKept kept
     → (moves ≡ []) ↔ ((turn (without_workers kept) ask moment word).state.kept ≡ kept)
 plan_stays kept ask moment word reply moves planned well =

@@ -16,7 +16,7 @@ use Rattle.fk_model.specs.declared.ask.Ask.TheVariants.{PushBatch}
 use Rattle.fk_model.specs.declared.item.Item.{Item}
 use Rattle.fk_model.specs.declared.item.Item.TheVariants.{Asks}
 use Rattle.fk_model.specs.Payloads.{AreElements, Element, taken, barred, HasKey, IsBatch, IsElement, batch_text, fault_text, jobs_among, refusals}
-use Rattle.fk_server.specs.declared.batch.Batch.{Batch}
+use Rattle.fk_server.specs.declared.batch.ReadBatch.{ReadBatch}
 use Rattle.fk_server.specs.Batches.{Grows, IsReadAs}
 use Rattle.fk_server.proofs.Told.{refused_without_float}
 
@@ -44,7 +44,7 @@ refusals-append (barred key reason ∷ front) back told =
     refusals-append front back (put key (string reason) told)
 
 -- the next element was read
-pub reads_next : (text : List ℕ) (spans : List Span) (span : Span) (old new : Batch)
+pub reads_next : (text : List ℕ) (spans : List Span) (span : Span) (old new : ReadBatch)
     → IsReadAs text spans old → Grows (slice_range text span.from span.to) old new
     → IsReadAs text (spans ++ span ∷ []) new
 reads_next text spans span old new before grows = record {
@@ -57,7 +57,7 @@ reads_next text spans span old new before grows = record {
 }
 
 -- an element is a job, which is kept
-pub keeps_element : {E : Type 0} (result : Result (Unit {0}) E) (text : List ℕ) (job : Job) (old new : Batch)
+pub keeps_element : {E : Type 0} (result : Result (Unit {0}) E) (text : List ℕ) (job : Job) (old new : ReadBatch)
     → IsJobOf text job → OnOk result (new.jobs.items ≡ old.jobs.items ++ job ∷ [])
     → new.refusals ≡ old.refusals → OnOk result (Grows text old new)
 keeps_element (Ok done) text job old new is kept same = record {
@@ -69,7 +69,7 @@ keeps_element (Ok done) text job old new is kept same = record {
 keeps_element (Err refused) text job old new is kept same = tt
 
 -- an element is none, and its fault is put under its key
-pub tells_element : {E : Type 0} (result : Result (Unit {0}) E) (text : List ℕ) (fault : JobFault) (old new : Batch)
+pub tells_element : {E : Type 0} (result : Result (Unit {0}) E) (text : List ℕ) (fault : JobFault) (old new : ReadBatch)
     → HasFault text fault
     → OnOk result ((key : List ℕ) × HasKey text key × (members_view new.refusals.entries
     ≡ put key (string (fault_text fault)) (members_view old.refusals.entries)))
@@ -95,7 +95,7 @@ stands_at text (first ∷ spans) zero each within = each.0
 stands_at text (first ∷ spans) (suc at) each within = stands_at text spans at each.1 (omega arith)
 
 -- the element at the next place was read
-pub reads_on : (text : List ℕ) (spans : List Span) (at : ℕ) (old new : Batch) → at < length spans
+pub reads_on : (text : List ℕ) (spans : List Span) (at : ℕ) (old new : ReadBatch) → at < length spans
     → IsReadAs text (take at spans) old
     → Grows (slice_range text (slice_index_or spans at no_span).from (slice_index_or spans at no_span).to) old new
     → IsReadAs text (take (at + 1) spans) new
@@ -106,7 +106,7 @@ reads_on text spans at old new within before grows =
     rw longer (reads_next text (take at spans) _ old new before grows)
 
 -- what a batch that was read whole asks for
-told_of : (text : List ℕ) (spans : List Span) (batch : Batch) (item : Item) → IsArrayText most_levels text spans
+told_of : (text : List ℕ) (spans : List Span) (batch : ReadBatch) (item : Item) → IsArrayText most_levels text spans
     → IsReadAs text spans batch
     → item ≡ Asks (PushBatch batch.jobs.items (compact_text (object (members_view batch.refusals.entries))))
     → IsBatch text item
@@ -119,7 +119,7 @@ told_of text spans batch item is reads same = inl (
       ∙ ap (λ jobs. Asks (PushBatch jobs (batch_text reads.elements))) reads.jobs,
 )
 
-pub tells_batch : {E : Type 0} (text : List ℕ) (spans : List Span) (batch : Batch) (found : Result Item E)
+pub tells_batch : {E : Type 0} (text : List ℕ) (spans : List Span) (batch : ReadBatch) (found : Result Item E)
     → IsArrayText most_levels text spans → IsReadAs text spans batch
     → IfOk found (λ item. item
     ≡ Asks (PushBatch batch.jobs.items (compact_text (object (members_view batch.refusals.entries)))))
@@ -128,7 +128,7 @@ tells_batch text spans batch (Ok item) is reads same = told_of text spans batch 
 tells_batch text spans batch (Err refused) is reads same = tt
 
 -- no refusal of a batch is a float
-pub told_without_float : (text : List ℕ) (spans : List Span) (batch : Batch) → IsReadAs text spans batch
+pub told_without_float : (text : List ℕ) (spans : List Span) (batch : ReadBatch) → IsReadAs text spans batch
     → members_have_float (members_view batch.refusals.entries) ≡ false
 told_without_float text spans batch reads =
     rw reads.told (refused_without_float reads.elements no_members refl)

@@ -8,7 +8,7 @@ use Rattle.std.proofs.lemmas.List.{length-append, map-append}
 use Rattle.std.proofs.lemmas.List.Elements.{All-nil, All-cons, All-append}
 use Rattle.std.proofs.lemmas.List.Sums.{fold-append}
 use Rattle.fk_io.specs.Telling.{Tells}
-use Rattle.fk_io.proofs.Told.{told_nothing, told_one, told_both}
+use Rattle.fk_io.proofs.Giving.{told_nothing, told_one, told_both}
 use Rattle.fk_frame.specs.declared.reply.Reply.{Reply}
 use Rattle.fk_frame.specs.declared.reply.Reply.TheVariants.{Nil}
 use Rattle.fk_frame.specs.Replies.{IsWellFormed}
@@ -23,7 +23,7 @@ use Rattle.fk_model.specs.declared.item.Item.TheVariants.{Own, Asks}
 use Rattle.fk_model.specs.declared.move_.Move.{Move}
 use Rattle.fk_model.specs.declared.row.Row.{Row}
 use Rattle.fk_model.specs.Limits.{greatest_next}
-use Rattle.fk_model.specs.State.{Kept, State, without_workers}
+use Rattle.fk_model.specs.State.{KeptState, State, without_workers}
 use Rattle.fk_model.specs.Between.{IsAboveAll, IsWellKept, IsBetweenTurns}
 use Rattle.fk_model.specs.Range.{IsInRange}
 use Rattle.fk_model.specs.Spellings.{IsWord}
@@ -31,7 +31,7 @@ use Rattle.fk_model.specs.Requests.{fetched}
 use Rattle.fk_model.specs.Said.{effect_of, handed_out, is_served, not_served, only_said}
 use Rattle.fk_model.specs.Turns.{closed, moves_due, moves_of_turn, moves_said, totals, turn, up_to_date}
 use Rattle.fk_model.specs.Answers.{reply_of}
-use Rattle.fk_model.specs.History.{next, faults_after, IsTold, IsRightAnswer, IsStep, IsLegalFrom, IsOverLimit}
+use Rattle.fk_model.specs.History.{next_state, faults_after, IsTold, IsRightAnswer, IsStep, IsLegalFrom, IsOverLimit}
 use Rattle.fk_model.proofs.Outs.{out-own, out-asks}
 use Rattle.fk_model.proofs.Histories.{legal_goes_on}
 use Rattle.fk_model.proofs.BetweenTurns.{next_keeps}
@@ -45,7 +45,7 @@ no_faults : (s : State) (n : ℕ) (history : List Entry) → n ≡ 0 → IsLegal
 unfolding IsLegalFrom
 no_faults s n [] none legal = none
 no_faults s n (entry ∷ history) none legal =
-    no_faults (next s entry) entry.told.after history legal.0.told.after legal.2
+    no_faults (next_state s entry) entry.told.after history legal.0.told.after legal.2
 
 -- no turn was made
 pub turned_nothing : (now : Server) → Turned now now []
@@ -71,20 +71,20 @@ turned_both old mid new xs ys first second =
       words = rw map-append
           (told_both old.words mid.words new.words (words_in xs) (words_in ys) first.words second.words);
       legal = (legal_goes_on s 0 xs ys).1 (first.legal, rw (none, first.leads) second.legal);
-      leads = fold-append next s xs ys ∙ rw first.leads second.leads;
+      leads = fold-append next_state s xs ys ∙ rw first.leads second.leads;
     }
 
 -- ---- one turn
 
 -- no worker comes by a turn
-none_fetched : (kept : Kept) (moment : ℕ) (wid : List ℕ) (row : Option (ℕ × Row))
+none_fetched : (kept : KeptState) (moment : ℕ) (wid : List ℕ) (row : Option (ℕ × Row))
     → (option_map_or (handed_out (without_workers kept) moment wid) row (only_said (without_workers kept) Nil)).state
     ≡ without_workers
     (option_map_or (handed_out (without_workers kept) moment wid) row (only_said (without_workers kept) Nil)).state.kept
 none_fetched kept moment wid None = refl
 none_fetched kept moment wid (Some filed) = refl
 
-none_by_effect : (kept : Kept) (ask : Ask) (moment word : ℕ)
+none_by_effect : (kept : KeptState) (ask : Ask) (moment word : ℕ)
     → (effect_of (without_workers kept) ask moment word).state
     ≡ without_workers (effect_of (without_workers kept) ask moment word).state.kept
 unfolding effect_of
@@ -95,7 +95,7 @@ none_by_effect kept (Fetch wid queues) moment word =
 none_by_effect kept (Ack jid) moment word = refl
 none_by_effect kept other moment word = refl
 
-none_by_choice : (kept : Kept) (ask : Ask) (moment word : ℕ) (served : Bool)
+none_by_choice : (kept : KeptState) (ask : Ask) (moment word : ℕ) (served : Bool)
     → (if served then effect_of (without_workers kept) ask moment word
     else only_said (without_workers kept) not_served).state
     ≡ without_workers
@@ -104,7 +104,7 @@ none_by_choice : (kept : Kept) (ask : Ask) (moment word : ℕ) (served : Bool)
 none_by_choice kept ask moment word true = none_by_effect kept ask moment word
 none_by_choice kept ask moment word false = refl
 
-pub no_worker_comes : (kept : Kept) (ask : Ask) (moment word : ℕ)
+pub no_worker_comes : (kept : KeptState) (ask : Ask) (moment word : ℕ)
     → (turn (without_workers kept) ask moment word).state
     ≡ without_workers (turn (without_workers kept) ask moment word).state.kept
 no_worker_comes kept ask moment word = none_by_choice kept ask moment word (is_served moment ask)
@@ -116,38 +116,38 @@ told_of_turn moment word below fits =
     record { moment = below; word = fits; before = refl; after = refl; compaction = refl }
 
 -- memory ran out in a turn
-pub starves : (kept : Kept) (ask : Ask) (moment word : ℕ) → IsInRange ask → moment < greatest → IsWord word
+pub starves : (kept : KeptState) (ask : Ask) (moment word : ℕ) → IsInRange ask → moment < greatest → IsWord word
     → IsStep (without_workers kept) (entry_of ask moment word NoMemory) (without_workers kept)
-unfolding next
+unfolding next_state
 starves kept ask moment word range below fits = record {
   right = record { in_range = range; told = told_of_turn moment word below fits; answer = tt };
   leads = refl;
 }
 
 -- a turn would be over its limit
-pub is_full : (kept : Kept) (ask : Ask) (moment word : ℕ) → IsInRange ask → moment < greatest → IsWord word
+pub is_full : (kept : KeptState) (ask : Ask) (moment word : ℕ) → IsInRange ask → moment < greatest → IsWord word
     → IsOverLimit (without_workers kept) ask moment word
     → IsStep (without_workers kept) (entry_of ask moment word Full) (without_workers kept)
-unfolding next
+unfolding next_state
 is_full kept ask moment word range below fits over = record {
   right = record { in_range = range; told = told_of_turn moment word below fits; answer = over };
   leads = refl;
 }
 
 -- a turn was made
-pub says : (kept new : Kept) (ask : Ask) (moment word : ℕ) (reply : Reply) → IsInRange ask → moment < greatest → IsWord word
+pub says : (kept new : KeptState) (ask : Ask) (moment word : ℕ) (reply : Reply) → IsInRange ask → moment < greatest → IsWord word
     → ¬ IsOverLimit (without_workers kept) ask moment word
     → reply ≡ (turn (without_workers kept) ask moment word).reply
     → new ≡ (turn (without_workers kept) ask moment word).state.kept
     → IsStep (without_workers kept) (entry_of ask moment word (Said reply)) (without_workers new)
-unfolding next
+unfolding next_state
 says kept new ask moment word reply range below fits within said same = record {
   right = record { in_range = range; told = told_of_turn moment word below fits; answer = (within, said) };
   leads = ap without_workers same ∙ sym (no_worker_comes kept ask moment word);
 }
 
 -- the next number is above all tickets and ranks behind a step, too
-pub still_above : (kept new : Kept) (entry : Entry) → IsWellKept kept
+pub still_above : (kept new : KeptState) (entry : Entry) → IsWellKept kept
     → IsStep (without_workers kept) entry (without_workers new) → IsAboveAll new.next new.rows
 unfolding IsDistinct
 still_above kept new entry well step =
@@ -157,7 +157,7 @@ still_above kept new entry well step =
     behind.kept.above
 
 -- a turn took a moment and a word, and was made at them
-pub makes_turn : (kept new : Kept) (moments words later_moments later_words : Option (List ℕ)) (ask : Ask)
+pub makes_turn : (kept new : KeptState) (moments words later_moments later_words : Option (List ℕ)) (ask : Ask)
     (moment word : ℕ) (answer : Answer) → Tells moments moment later_moments → Tells words word later_words
     → IsStep (without_workers kept) (entry_of ask moment word answer) (without_workers new)
     → Makes (server kept moments words) (server new later_moments later_words) ask answer
@@ -188,7 +188,7 @@ last_is xs x =
 
 -- moves that end with the numbers tell whether they are beyond the limit, and where there is none, the
 -- kept state stays
-end_of : (moves : List Move) (before kept : Kept) → before.next ≤ greatest_next
+end_of : (moves : List Move) (before kept : KeptState) → before.next ≤ greatest_next
     → (closed moves kept ≡ [] → kept ≡ before) → EndBeyond (closed moves kept) ↔ (greatest_next < kept.next)
 end_of [] before kept within stays =
     let same : kept.next ≡ before.next = ap (λ now. now.next) (stays refl) in
@@ -197,7 +197,7 @@ end_of (move ∷ moves) before kept within stays =
     rw (last_is (move ∷ moves) (totals kept)) ((λ over. over), (λ over. over))
 
 -- the end of a turn's moves tells whether it is over its limit
-limit_told : (kept : Kept) (ask : Ask) (moment word : ℕ) (moves : List Move)
+limit_told : (kept : KeptState) (ask : Ask) (moment word : ℕ) (moves : List Move)
     → moves ≡ moves_of_turn (without_workers kept) ask moment word → kept.next ≤ greatest_next
     → (moves ≡ [] → (turn (without_workers kept) ask moment word).state.kept ≡ kept)
     → EndBeyond moves ↔ IsOverLimit (without_workers kept) ask moment word
@@ -207,7 +207,7 @@ limit_told kept ask moment word moves are within stays =
     kept (turn s ask moment word).state.kept within (rw are at stays))
 
 -- where the test of that end says so, it is
-pub is_beyond : (kept : Kept) (ask : Ask) (moment word : ℕ) (moves : List Move) (over : Bool)
+pub is_beyond : (kept : KeptState) (ask : Ask) (moment word : ℕ) (moves : List Move) (over : Bool)
     → moves ≡ moves_of_turn (without_workers kept) ask moment word → kept.next ≤ greatest_next
     → (moves ≡ [] → (turn (without_workers kept) ask moment word).state.kept ≡ kept)
     → IsTrue over ↔ EndBeyond moves → over ≡ true
@@ -216,7 +216,7 @@ is_beyond kept ask moment word moves over are within stays tested told =
     (limit_told kept ask moment word moves are within stays).0 (tested.0 told)
 
 -- and where it doesn't, it isn't
-pub is_within : (kept : Kept) (ask : Ask) (moment word : ℕ) (moves : List Move) (over : Bool)
+pub is_within : (kept : KeptState) (ask : Ask) (moment word : ℕ) (moves : List Move) (over : Bool)
     → moves ≡ moves_of_turn (without_workers kept) ask moment word → kept.next ≤ greatest_next
     → (moves ≡ [] → (turn (without_workers kept) ask moment word).state.kept ≡ kept)
     → IsTrue over ↔ EndBeyond moves → over ≡ false

@@ -1,6 +1,6 @@
 -- Turns, one behind the other, as a session has them made, and their history.
 use Rattle.std.specs.Prelude.{◌≡◌, ℕ, ◌<◌, ◌-◌, List, [], ◌∷◌, length, map, All, Option, slice_get, IsSomeAnd}
-use Rattle.fk_io.specs.Telling.{Told}
+use Rattle.fk_io.specs.Telling.{Gave}
 use Rattle.fk_frame.specs.declared.reply.Reply.{Reply}
 use Rattle.fk_frame.specs.Replies.{IsWellFormed, reply_bytes}
 use Rattle.fk_model.specs.declared.ask.Ask.{Ask}
@@ -12,17 +12,17 @@ use Rattle.fk_model.specs.declared.item.Item.TheVariants.{Own, Asks}
 use Rattle.fk_model.specs.declared.move_.Move.{Move}
 use Rattle.fk_model.specs.declared.move_.Move.TheVariants.{Totals}
 use Rattle.fk_model.specs.Limits.{greatest_next}
-use Rattle.fk_model.specs.State.{Kept, without_workers}
+use Rattle.fk_model.specs.State.{KeptState, without_workers}
 use Rattle.fk_model.specs.Out.{asks_of, out}
-use Rattle.fk_model.specs.History.{after, IsLegal}
+use Rattle.fk_model.specs.History.{state_after, IsLegal}
 
 -- what turns are made of: the kept state, and what the clock and the dice tell
 pub record Server : Type 0 where
-  pub kept : Kept
+  pub kept : KeptState
   pub moments : Option (List ℕ)
   pub words : Option (List ℕ)
 
-abbrev pub server : Kept → Option (List ℕ) → Option (List ℕ) → Server
+abbrev pub server : KeptState → Option (List ℕ) → Option (List ℕ) → Server
 server kept moments words = record { kept = kept; moments = moments; words = words }
 
 -- ---- a history
@@ -45,10 +45,10 @@ words_in history = map (λ entry. entry.told.word) history
 -- behind it. All turns are of one seat.
 pub record Turned (old new : Server) (history : List Entry) : Type 0 where
   pub seats : All (λ entry. entry.seat ≡ 0) history
-  pub moments : Told old.moments (moments_in history) new.moments
-  pub words : Told old.words (words_in history) new.words
+  pub moments : Gave old.moments (moments_in history) new.moments
+  pub words : Gave old.words (words_in history) new.words
   pub legal : IsLegal (without_workers old.kept) history
-  pub leads : after (without_workers old.kept) history ≡ without_workers new.kept
+  pub leads : state_after (without_workers old.kept) history ≡ without_workers new.kept
 
 -- ---- one turn
 

@@ -22,7 +22,7 @@ use std::alloc::{AllocError, Global};
 
 /// What was read of a batch: the jobs that are taken, and by key why the others aren't.
 #[derive(Drop)]
-struct Batch {
+struct ReadBatch {
     jobs: Jobs,
     refusals: Map<String, Value>,
 }
@@ -41,7 +41,7 @@ pub(crate) fn push_batch(alloc: Global, arguments: &[u8]) -> Result<Item, AllocE
 }
 
 /// What a batch asks for: its jobs are pushed, and why its refused elements were is told as an object.
-fn tell(alloc: Global, batch: Batch) -> Result<Item, AllocError>
+fn tell(alloc: Global, batch: ReadBatch) -> Result<Item, AllocError>
     requires { members_have_float (members_view batch.refusals.entries) ≡ false }
     ensures item { IfOk result (λ item. item ≡ Asks (PushBatch batch.jobs.items
         (compact_text (object (members_view batch.refusals.entries))))) }
@@ -55,11 +55,11 @@ fn tell(alloc: Global, batch: Batch) -> Result<Item, AllocError>
 }
 
 /// Reads the elements at these places, one by one.
-fn read_elements(alloc: Global, text: &[u8], spans: &[Span]) -> Result<Batch, AllocError>
+fn read_elements(alloc: Global, text: &[u8], spans: &[Span]) -> Result<ReadBatch, AllocError>
     requires { AllByRecursion (IsElementIn inner_levels text.now) spans.now }
     ensures { IfOk result (IsReadAs text.now spans.now) }
 {
-    let mut batch = Batch {
+    let mut batch = ReadBatch {
         jobs: Jobs::new(alloc),
         refusals: Map::new(alloc),
     };
@@ -78,7 +78,7 @@ fn piece_at(text: &[u8], span: Span) -> &[u8]
 }
 
 /// Reads one element: its job is taken, or its fault put under its key.
-fn read_element(alloc: Global, text: &[u8], batch: &mut Batch) -> Result<(), AllocError>
+fn read_element(alloc: Global, text: &[u8], batch: &mut ReadBatch) -> Result<(), AllocError>
     ensures { OnOk result (Grows text.now batch.old batch.new) }
 {
     match job_or_fault(alloc, text)? {

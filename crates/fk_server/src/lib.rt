@@ -1,7 +1,7 @@
 //! The top calls of the job server.
 #![tactic(auto)]
 
-mod acknowledging;
+mod ack;
 mod answer;
 mod batch;
 mod command;

@@ -6,7 +6,7 @@ ghost use Rattle.fk_model.specs.Script.{AreGiven, AreItemsOf, handshake_items, p
 ghost use Rattle.fk_server.specs.Turning.{IsInForm};
 ghost use Rattle.fk_server.specs.Verbs.{command};
 
-use crate::acknowledging::acknowledge;
+use crate::ack::acknowledge;
 use crate::batch::push_batch;
 use crate::command::{Verb, arguments_of, says_hello, verb_in, verb_of};
 use crate::names::queue_names;

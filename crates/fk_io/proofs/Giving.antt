@@ -3,7 +3,7 @@ use Rattle.std.proofs.Common.{◌≡◌, ℕ, zero, suc, ◌+◌, ◌≤◌, ref
 use Rattle.std.proofs.Common.{List, [], ◌∷◌, ◌++◌, Option, None, Some, length, take, append_assoc}
 use Rattle.std.proofs.lemmas.List.{length-append}
 use Rattle.std.proofs.lemmas.Option.{get_or_from_slice_get, none-some}
-use Rattle.fk_io.specs.Telling.{rest_of, Tells, rest_after, told_of, Told}
+use Rattle.fk_io.specs.Telling.{rest_of, Tells, rest_after, told_of, Gave}
 
 -- what is told after so many calls and then so many more
 pub rest_after-sum : (n m : ℕ) (items : List ℕ) →
@@ -24,14 +24,14 @@ told_of-sum (suc n) m items =
     rw (e, append_assoc, ← told_of-sum n m (rest_of items))
 
 -- no call was made
-pub told_nothing : (told : Option (List ℕ)) → Told told [] told
+pub told_nothing : (told : Option (List ℕ)) → Gave told [] told
 unfolding told_of rest_after
 told_nothing None = record { all = tt; left = refl }
 told_nothing (Some items) = record { all = refl; left = refl }
 
 -- one call was made
 pub told_one : (before after : Option (List ℕ)) (answer : ℕ) →
-    Tells before answer after → Told before (answer ∷ []) after
+    Tells before answer after → Gave before (answer ∷ []) after
 unfolding told_of rest_after
 told_one None after answer one = record { all = tt; left = one.rest }
 told_one (Some []) after answer one = absurd (none-some answer one.first)
@@ -42,7 +42,7 @@ told_one (Some (item ∷ items)) after answer one = record {
 
 -- calls were made, and then others
 pub told_both : (a b c : Option (List ℕ)) (xs ys : List ℕ) →
-    Told a xs b → Told b ys c → Told a (xs ++ ys) c
+    Gave a xs b → Gave b ys c → Gave a (xs ++ ys) c
 told_both None b c xs ys first second = record {
   all = tt;
   left = rw (second.left, first.left);
@@ -56,13 +56,13 @@ told_both (Some items) b c xs ys first second =
 
 -- one call was made, and then others
 pub told_then : (a b c : Option (List ℕ)) (answer : ℕ) (answers : List ℕ) →
-    Tells a answer b → Told b answers c → Told a (answer ∷ answers) c
+    Tells a answer b → Gave b answers c → Gave a (answer ∷ answers) c
 told_then a b c answer answers first second =
     told_both a b c (answer ∷ []) answers (told_one a b answer first) second
 
 -- calls were made, and then one more
 pub told_one_more : (a b c : Option (List ℕ)) (answers : List ℕ) (answer : ℕ) →
-    Told a answers b → Tells b answer c → Told a (answers ++ answer ∷ []) c
+    Gave a answers b → Tells b answer c → Gave a (answers ++ answer ∷ []) c
 told_one_more a b c answers answer first second =
     told_both a b c answers (answer ∷ []) first (told_one b c answer second)
 
