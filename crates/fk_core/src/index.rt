@@ -7,6 +7,7 @@ ghost use Rattle.fk_core.specs.Marks.{FindsTheSame, HasMore, IsMarked, IsUnmarke
 use fk_job::Job;
 use fk_json::Text;
 use fk_leases::Leases;
+use fk_lists::RoomByName;
 use fk_model::{Place, Row};
 use fk_queues::Queues;
 use std::alloc::{AllocError, Global};

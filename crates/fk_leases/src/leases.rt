@@ -1,11 +1,11 @@
 ghost use Rattle.std.specs.Prelude.{◌≡◌, ◌≢◌, ◌↔◌, ◌++◌, ◌^◌, ◌-◌, ◌+◌, ◌<◌, ◌≤◌, ℕ, List, [], length, min, option_map, slice_get, Contains, IsFalse, IsOk, IsTrue, OnErr, OnOk, Some};
 ghost use Rattle.std.specs.List.{remove};
 ghost use Rattle.fk_model.specs.Orders.{with_pair};
-ghost use Rattle.fk_lists.specs.Room.{all_pairs, list_at, mark_at, spare_at, AreNamed, IsLean, OthersStay};
+ghost use Rattle.fk_lists.specs.Room.{all_pairs, list_at, no_lists, mark_at, spare_at, AreNamed, IsLean, OthersStay};
 ghost use Rattle.fk_leases.specs.Leases.{first_until, leased_ticket, until_in, run_out, without_lease, AreByTicket, IsAbsent};
 
 use fk_json::{Pairs, Text};
-use fk_lists::Lists;
+use fk_lists::{Lists, RoomByName};
 use std::alloc::{AllocError, Global};
 use std::marker::Model;
 
@@ -31,24 +31,11 @@ impl Model for Leases {
 impl Leases {
     /// No lease. It takes no memory.
     pub fn new(alloc: Global) -> Leases
-        ensures items { result.items ≡ [] }
-        ensures spares { result.spares ≡ [] }
-        ensures marks { result.marks ≡ [] }
+        ensures { result ≡ no_lists }
     {
         Leases {
             lists: Lists::new(alloc),
         }
-    }
-
-    /// Makes room for more leases of a jid. The leases stay, and so does the room that was there.
-    pub fn reserve(&mut self, jid: &Text, more: usize) -> Result<(), AllocError>
-        ensures ok { OnOk result (more ≤ spare_at self.new.spares jid.now) }
-        ensures kept { (other : List ℕ)
-            → spare_at self.old.spares other ≤ spare_at self.new.spares other }
-        ensures same { self.new.items ≡ self.old.items }
-        ensures ready { more ≤ spare_at self.old.spares jid.now → IsOk result }
-    {
-        self.lists.reserve(jid, more)
     }
 
     /// Puts a lease of a ticket that has none under this jid.
@@ -143,46 +130,24 @@ impl Leases {
     {
         self.lists.count()
     }
+}
 
-    /// Marks room for one lease of a jid, beside what is marked, and makes it where it isn't there.
-    /// No call but this one and `unmark` says what becomes of marks.
-    pub fn mark(&mut self, jid: &Text) -> Result<(), AllocError>
-        ensures ok { OnOk result
-            (mark_at self.new.marks jid.now ≡ mark_at self.old.marks jid.now + 1) }
-        ensures err { OnErr result
-            (mark_at self.new.marks jid.now ≡ mark_at self.old.marks jid.now) }
-        ensures within { OnOk result
-            (mark_at self.new.marks jid.now ≤ spare_at self.new.spares jid.now) }
-        ensures others { (other : List ℕ) → other ≢ jid.now
-            → mark_at self.new.marks other ≡ mark_at self.old.marks other }
-        ensures kept { (other : List ℕ)
-            → spare_at self.old.spares other ≤ spare_at self.new.spares other }
-        ensures same { self.new.items ≡ self.old.items }
-        ensures ready { mark_at self.old.marks jid.now < spare_at self.old.spares jid.now
-            → IsOk result }
-    {
+impl RoomByName for Leases {
+    ghost room = { λ leases. leases };
+
+    fn reserve(&mut self, jid: &Text, more: usize) -> Result<(), AllocError> {
+        self.lists.reserve(jid, more)
+    }
+
+    fn mark(&mut self, jid: &Text) -> Result<(), AllocError> {
         self.lists.mark(jid)
     }
 
-    /// Takes all marks of a jid away.
-    pub fn unmark(&mut self, jid: &Text)
-        ensures mark { mark_at self.new.marks jid.now ≡ 0 }
-        ensures others { (other : List ℕ) → other ≢ jid.now
-            → mark_at self.new.marks other ≡ mark_at self.old.marks other }
-        ensures kept { (other : List ℕ)
-            → spare_at self.new.spares other ≡ spare_at self.old.spares other }
-        ensures same { self.new.items ≡ self.old.items }
-    {
+    fn unmark(&mut self, jid: &Text) {
         self.lists.unmark(jid);
     }
 
-    /// Takes all leases out. The rooms stay. Jids that have no room are forgotten.
-    pub fn clear(&mut self)
-        ensures items { self.new.items ≡ [] }
-        ensures kept { (jid : List ℕ)
-            → spare_at self.new.spares jid ≡ spare_at self.old.spares jid }
-        ensures lean { IsLean self.new }
-    {
+    fn clear(&mut self) {
         self.lists.clear();
     }
 }

@@ -19,6 +19,10 @@ pub record Room : Type 0 where
   pub spares : Spares
   pub marks : Spares
 
+-- no name has a pair, or room for one
+abbrev pub no_lists : Room
+no_lists = record { items = []; spares = []; marks = [] }
+
 -- the list of a name; it is empty where the name has none
 unfoldable pub list_at : Named → List ℕ → List (ℕ × ℕ)
 list_at items name = unwrap_or (lookup (bytes_eq name) items) []

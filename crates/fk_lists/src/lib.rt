@@ -6,9 +6,11 @@ mod lists;
 mod looking;
 mod marking;
 mod pair_list;
+mod room_by_name;
 mod size;
 #[cfg(test)]
 mod tests;
 
 pub use lists::Lists;
+pub use room_by_name::RoomByName;
 pub use size::{Size, Sizes};

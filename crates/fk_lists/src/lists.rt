@@ -2,7 +2,7 @@ ghost use Rattle.std.specs.Prelude.{◌≡◌, ◌+◌, ◌<◌, ◌≤◌, ℕ,
 ghost use Rattle.std.specs.List.{insert, remove};
 ghost use Rattle.std.specs.List.Sorted.{IsStrictlyIncreasing};
 ghost use Rattle.fk_model.specs.Orders.{number_in};
-ghost use Rattle.fk_lists.specs.Room.{list_at, mark_at, spare_at, IsLean, OthersStay};
+ghost use Rattle.fk_lists.specs.Room.{list_at, no_lists, mark_at, spare_at, IsLean, OthersStay};
 ghost use Rattle.fk_lists.specs.Places.{IsGap, IsPlace};
 
 use crate::idle::forget_idle;
@@ -38,9 +38,7 @@ impl Model for Lists {
 impl Lists {
     /// No lists. It takes no memory.
     pub fn new(alloc: Global) -> Lists
-        ensures items { result.items ≡ [] }
-        ensures spares { result.spares ≡ [] }
-        ensures marks { result.marks ≡ [] }
+        ensures { result ≡ no_lists }
     {
         Lists {
             alloc,
@@ -48,26 +46,9 @@ impl Lists {
         }
     }
 
-    /// Makes room for more pairs of a name. The lists stay, and so does the room that was there.
+    /// Makes room for pairs of a name that has no list.
     #[tactic(auto, using(crate::proofs::Lookups::listed, crate::proofs::Lookups::spared))]
-    pub fn reserve(&mut self, name: &Text, more: usize) -> Result<(), AllocError>
-        ensures ok { OnOk result (more ≤ spare_at self.new.spares name.now) }
-        ensures kept { (other : List ℕ)
-            → spare_at self.old.spares other ≤ spare_at self.new.spares other }
-        ensures same { self.new.items ≡ self.old.items }
-        ensures marks { (other : List ℕ)
-            → mark_at self.new.marks other ≡ mark_at self.old.marks other }
-        ensures ready { more ≤ spare_at self.old.spares name.now → IsOk result }
-    {
-        match self.held.get_mut(name) {
-            Some(list) => list.reserve(more),
-            None => self.add(name, more),
-        }
-    }
-
-    // Makes room for pairs of a name that has no list.
-    #[tactic(auto, using(crate::proofs::Lookups::listed, crate::proofs::Lookups::spared))]
-    fn add(&mut self, name: &Text, more: usize) -> Result<(), AllocError>
+    pub(crate) fn add(&mut self, name: &Text, more: usize) -> Result<(), AllocError>
         requires empty { list_at self.old.items name.now ≡ [] }
         requires bare { spare_at self.old.spares name.now ≡ 0 }
         ensures ok { OnOk result (more ≤ spare_at self.new.spares name.now) }
@@ -159,18 +140,5 @@ impl Lists {
             Some(list) => list.place_of(number),
             None => Err(0),
         }
-    }
-
-    /// Takes all pairs out. The rooms stay. Names that have no room are forgotten.
-    pub fn clear(&mut self)
-        ensures items { self.new.items ≡ [] }
-        ensures kept { (name : List ℕ)
-            → spare_at self.new.spares name ≡ spare_at self.old.spares name }
-        ensures lean { IsLean self.new }
-    {
-        self.held.retain(|_, list| {
-            list.clear();
-            list.spare() > 0
-        });
     }
 }

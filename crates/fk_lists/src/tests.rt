@@ -1,4 +1,4 @@
-use crate::Lists;
+use crate::{Lists, RoomByName};
 use fk_json::{Pairs, Text};
 use std::test::Fail;
 

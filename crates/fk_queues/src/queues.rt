@@ -1,11 +1,11 @@
 ghost use Rattle.std.specs.Prelude.{◌≡◌, ◌≢◌, ◌∷◌, ◌++◌, ◌+◌, ◌-◌, ◌<◌, ◌≤◌, ℕ, List, [], drop, length, slice_get, All, IfOk, IsOk, OnErr, OnOk};
 ghost use Rattle.fk_model.specs.Orders.{number_in};
-ghost use Rattle.fk_lists.specs.Room.{list_at, mark_at, spare_at, AreNamed, IsLean, OthersStay};
+ghost use Rattle.fk_lists.specs.Room.{list_at, no_lists, mark_at, spare_at, AreNamed, IsLean, OthersStay};
 ghost use Rattle.fk_lists.specs.Sizes.{sizes_of};
 ghost use Rattle.fk_queues.specs.Queues.{AreByRank};
 
 use fk_json::{Pairs, Text};
-use fk_lists::{Lists, Sizes};
+use fk_lists::{Lists, RoomByName, Sizes};
 use std::alloc::{AllocError, Global};
 use std::marker::Model;
 
@@ -30,24 +30,11 @@ impl Model for Queues {
 impl Queues {
     /// No queue. It takes no memory.
     pub fn new(alloc: Global) -> Queues
-        ensures items { result.items ≡ [] }
-        ensures spares { result.spares ≡ [] }
-        ensures marks { result.marks ≡ [] }
+        ensures { result ≡ no_lists }
     {
         Queues {
             lists: Lists::new(alloc),
         }
-    }
-
-    /// Makes room for more rows of a queue. The queues stay, and so does the room that was there.
-    pub fn reserve(&mut self, queue: &Text, more: usize) -> Result<(), AllocError>
-        ensures ok { OnOk result (more ≤ spare_at self.new.spares queue.now) }
-        ensures kept { (name : List ℕ)
-            → spare_at self.old.spares name ≤ spare_at self.new.spares name }
-        ensures same { self.new.items ≡ self.old.items }
-        ensures ready { more ≤ spare_at self.old.spares queue.now → IsOk result }
-    {
-        self.lists.reserve(queue, more)
     }
 
     /// Puts a row at the end of a queue.
@@ -114,46 +101,24 @@ impl Queues {
             count => self.lists.get(queue, count - 1),
         }
     }
+}
 
-    /// Marks room for one row of a queue, beside what is marked, and makes it where it isn't there.
-    /// No call but this one and `unmark` says what becomes of marks.
-    pub fn mark(&mut self, queue: &Text) -> Result<(), AllocError>
-        ensures ok { OnOk result
-            (mark_at self.new.marks queue.now ≡ mark_at self.old.marks queue.now + 1) }
-        ensures err { OnErr result
-            (mark_at self.new.marks queue.now ≡ mark_at self.old.marks queue.now) }
-        ensures within { OnOk result
-            (mark_at self.new.marks queue.now ≤ spare_at self.new.spares queue.now) }
-        ensures others { (other : List ℕ) → other ≢ queue.now
-            → mark_at self.new.marks other ≡ mark_at self.old.marks other }
-        ensures kept { (other : List ℕ)
-            → spare_at self.old.spares other ≤ spare_at self.new.spares other }
-        ensures same { self.new.items ≡ self.old.items }
-        ensures ready { mark_at self.old.marks queue.now < spare_at self.old.spares queue.now
-            → IsOk result }
-    {
+impl RoomByName for Queues {
+    ghost room = { λ queues. queues };
+
+    fn reserve(&mut self, queue: &Text, more: usize) -> Result<(), AllocError> {
+        self.lists.reserve(queue, more)
+    }
+
+    fn mark(&mut self, queue: &Text) -> Result<(), AllocError> {
         self.lists.mark(queue)
     }
 
-    /// Takes all marks of a queue away.
-    pub fn unmark(&mut self, queue: &Text)
-        ensures mark { mark_at self.new.marks queue.now ≡ 0 }
-        ensures others { (other : List ℕ) → other ≢ queue.now
-            → mark_at self.new.marks other ≡ mark_at self.old.marks other }
-        ensures kept { (other : List ℕ)
-            → spare_at self.new.spares other ≡ spare_at self.old.spares other }
-        ensures same { self.new.items ≡ self.old.items }
-    {
+    fn unmark(&mut self, queue: &Text) {
         self.lists.unmark(queue);
     }
 
-    /// Takes all rows out. The rooms stay. Queues that have no room are forgotten.
-    pub fn clear(&mut self)
-        ensures items { self.new.items ≡ [] }
-        ensures kept { (name : List ℕ)
-            → spare_at self.new.spares name ≡ spare_at self.old.spares name }
-        ensures lean { IsLean self.new }
-    {
+    fn clear(&mut self) {
         self.lists.clear();
     }
 }

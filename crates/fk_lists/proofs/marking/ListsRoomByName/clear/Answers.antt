@@ -1,7 +1,7 @@
 use Rattle.std.proofs.Common.{rules}
 use Rattle.fk_lists.proofs.Cleared.{lists_gone, rooms_same, sound_left}
 use Rattle.fk_lists.proofs.InUse.{lean}
-use Rattle.fk_lists.proofs.lists.Lists.clear.Goals as goal
+use Rattle.fk_lists.proofs.marking.ListsRoomByName.clear.Goals as goal
 
 pub returns-clause-items : goal.returns-clause-items
 returns-clause-items c =

@@ -3,7 +3,7 @@ use Rattle.fk_lists.proofs.Lookups.{marked, spared}
 use Rattle.fk_lists.proofs.InUse.{other_lists, sound_with, still_used, used_list}
 use Rattle.fk_lists.proofs.Updates.{marks_stay, roomier}
 use Rattle.fk_lists.proofs.Unseen.{replaced}
-use Rattle.fk_lists.proofs.lists.Lists.reserve.Goals as goal
+use Rattle.fk_lists.proofs.marking.ListsRoomByName.reserve.Goals as goal
 
 pub returns-in-Some-clause-kept : goal.returns-in-Some-clause-kept
 returns-in-Some-clause-kept c =

@@ -3,7 +3,7 @@ use Rattle.fk_lists.proofs.InUse.{other_lists, sound_with, still_used, used_list
 use Rattle.fk_lists.proofs.Lookups.{spared}
 use Rattle.fk_lists.proofs.Updates.{other_marks, rooms_stay}
 use Rattle.fk_lists.proofs.Unseen.{replaced}
-use Rattle.fk_lists.proofs.lists.Lists.unmark.Goals as goal
+use Rattle.fk_lists.proofs.marking.ListsRoomByName.unmark.Goals as goal
 
 pub invariant_of-self-2 : goal.invariant_of-self-2
 invariant_of-self-2 c =
