@@ -56,10 +56,13 @@ impl Jobs {
         Ok(())
     }
 
-    /// Adds all of the others at the end, in order, or none of them.
+    /// Adds all of the others at the end, in order, or none of them. It can't fail where there is room
+    /// for them, and what is free beyond them stays free.
     pub fn append(&mut self, others: Jobs) -> Result<(), AllocError>
         ensures ok { OnOk result (self.new.items ≡ self.old.items ++ others.items) }
         ensures err { OnErr result (self.new.items ≡ self.old.items) }
+        ensures kept { self.old.spare ≤ self.new.spare + length others.items }
+        ensures stays { OnErr result (self.old.spare ≤ self.new.spare) }
         ensures ready { length others.items ≤ self.old.spare → IsOk result }
     {
         let mut added = others.jobs;

@@ -27,4 +27,5 @@ pub use jobs::Jobs;
 pub use named::string_of;
 pub use reading::read_job;
 pub use stamp::Stamp;
+pub use values::DEFAULT_QUEUE;
 pub use writing::write_job;

@@ -10,8 +10,8 @@ use fk_json::{Text, integer_value, string_value};
 use fk_time::read_moment;
 use std::alloc::Global;
 
-/// The queue of a job that names none.
-pub(crate) const DEFAULT_QUEUE: &[u8] = b"default";
+/// The queue of a job that names none, and of a fetch that names none.
+pub const DEFAULT_QUEUE: &[u8] = b"default";
 
 /// The seconds of a reservation that isn't said or is too short.
 pub(crate) const DEFAULT_RESERVE: u64 = 1800;

@@ -4,6 +4,7 @@
 mod brackets;
 mod cursor;
 mod fault;
+mod list_of;
 mod member;
 mod mode;
 mod number;
@@ -26,6 +27,7 @@ mod texts;
 mod token;
 
 pub use fault::JsonFault;
+pub use list_of::ListOf;
 pub use member::{Member, Members};
 pub use number::integer_value;
 pub use pairs::Pairs;

@@ -56,10 +56,12 @@ impl Pairs {
     }
 
     /// Adds all of these pairs at the end, in order, or none of them. It can't fail where there is
-    /// room for them.
+    /// room for them, and what is free beyond them stays free.
     pub fn extend(&mut self, others: &[(u64, u64)]) -> Result<(), AllocError>
         ensures ok { OnOk result (self.new.items ≡ self.old.items ++ others.now) }
         ensures err { OnErr result (self.new.items ≡ self.old.items) }
+        ensures kept { self.old.spare ≤ self.new.spare + length others.now }
+        ensures stays { OnErr result (self.old.spare ≤ self.new.spare) }
         ensures ready { length others.now ≤ self.old.spare → IsOk result }
     {
         self.pairs.reserve(others.len())?;

@@ -15,7 +15,7 @@ use Rattle.fk_frame.specs.declared.reply.Reply.TheVariants.{Status, Error}
 use Rattle.fk_job.specs.declared.job.Job.{Job}
 use Rattle.fk_job.specs.declared.fault.JobFault.{JobFault}
 use Rattle.fk_job.specs.declared.fault.JobFault.TheVariants.{NoJid, ShortJid, NoType, NoArgs, BadQueue, BadReserve, BadRetry, BadAt, Syntax, TooDeep, NoMemory}
-use Rattle.fk_job.specs.Fields.{HasString}
+use Rattle.fk_job.specs.Fields.{HasString, default_queue}
 use Rattle.fk_job.specs.JobText.{HasFault, HasJid, IsJobOf}
 use Rattle.fk_model.specs.declared.ask.Ask.TheVariants.{Push, PushBatch, Fetch, Ack}
 use Rattle.fk_model.specs.declared.item.Item.{Item}
@@ -113,9 +113,9 @@ IsBatch arguments item =
 abbrev pub is_some_text : List ℕ → Bool
 is_some_text text = nat_lt 0 (length text)
 
--- the names, or this one where there is none
+-- the names, or that of the default queue where there is none
 abbrev pub or_default : List (List ℕ) → List (List ℕ)
-or_default [] = codes "default" ∷ []
+or_default [] = default_queue ∷ []
 or_default (name ∷ names) = name ∷ names
 
 -- the names of queues among the arguments: what stands between their spaces, without what is empty

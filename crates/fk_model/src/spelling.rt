@@ -7,9 +7,7 @@ ghost use Rattle.fk_model.specs.Spellings.{AreTexts, HasFailureSpelling, HasJobS
 use crate::{Move, Place, Row};
 use fk_job::{Failure, Job};
 use fk_json::{Text, Texts};
-
-/// The greatest moment, in milliseconds since 1970-01-01T00:00:00Z.
-const GREATEST: u64 = 250_000_000_000_000;
+use fk_time::GREATEST;
 
 /// A text has fewer bytes than this, and a list fewer items.
 const TEXT_LIMIT: usize = 4_294_967_296;

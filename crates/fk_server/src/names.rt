@@ -4,6 +4,7 @@ ghost use Rattle.std.specs.List.{slice_split};
 ghost use Rattle.fk_model.specs.Commands.{is_space};
 ghost use Rattle.fk_model.specs.Payloads.{is_some_text, queue_names};
 
+use fk_job::DEFAULT_QUEUE;
 use fk_json::{Text, Texts};
 use std::alloc::{AllocError, Global};
 
@@ -13,7 +14,7 @@ pub(crate) fn queue_names(alloc: Global, arguments: &[u8]) -> Result<Texts, Allo
 {
     let mut names = names_in(alloc, arguments)?;
     if names.is_empty() {
-        names.push(Text::fixed(alloc, b"default"))?;
+        names.push(Text::fixed(alloc, DEFAULT_QUEUE))?;
     }
     Ok(names)
 }
