@@ -15,11 +15,13 @@ use Rattle.fk_json.specs.declared.number_mode.NumberMode.TheVariants.{Zero}
 use Rattle.fk_json.specs.declared.string_mode.StringMode.TheVariants.{Inside}
 use Rattle.fk_json.specs.declared.token.Token.TheVariants as token
 use Rattle.fk_json.specs.Reached.{IsNamed}
-use Rattle.fk_json.proofs.Items.{elements_apart, members_apart, named}
+use Rattle.fk_json.proofs.ElementsApart.{elements_apart}
+use Rattle.fk_json.proofs.MembersApart.{members_apart, named}
 use Rattle.fk_json.proofs.NumberLeft.{number_may_end}
 use Rattle.fk_json.proofs.Spaces.{spaced_at}
-use Rattle.fk_json.proofs.Steps.{frame}
-use Rattle.fk_json.proofs.StringLeft.{string_begins, string_completes}
+use Rattle.fk_json.proofs.ValueSteps.{frame}
+use Rattle.fk_json.proofs.StringLeft.{string_begins}
+use Rattle.fk_json.proofs.StringCompletes.{string_completes}
 use Rattle.fk_json.proofs.TokenLeft.{token_completes}
 use Rattle.fk_json.proofs.Values.{value_begins}
 

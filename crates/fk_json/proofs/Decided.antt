@@ -21,8 +21,9 @@ use Rattle.fk_json.specs.declared.standing.Step.TheVariants as step
 use Rattle.fk_json.specs.declared.string_mode.StringMode.{StringMode}
 use Rattle.fk_json.specs.declared.string_mode.StringMode.TheVariants.{Inside}
 use Rattle.fk_json.proofs.Places.{ends_early, fails_at, too_deep_at}
-use Rattle.fk_json.proofs.Readings.{Ahead, goes_on, read_right, starts, whole_text}
-use Rattle.fk_json.proofs.Stands.{Outcome}
+use Rattle.fk_json.proofs.ReadingOn.{Ahead, goes_on, read_right}
+use Rattle.fk_json.proofs.Readings.{starts, whole_text}
+use Rattle.fk_json.proofs.Outcomes.{Outcome}
 use Rattle.fk_json.specs.Reached.{Stands}
 use Rattle.fk_json.proofs.StringLeft.{string_begins, string_empty, string_goes, string_may_end, string_none, string_stops, string_unended}
 

@@ -15,8 +15,9 @@ use Rattle.fk_json.specs.declared.standing.Step.TheVariants as step
 use Rattle.fk_json.specs.Reached.{Stands}
 use Rattle.fk_json.proofs.Completes.{between_completes}
 use Rattle.fk_json.proofs.Levels.{array_more, object_more}
-use Rattle.fk_json.proofs.Readings.{Ahead, completes_text, unfinished}
-use Rattle.fk_json.proofs.Stands.{Outcome}
+use Rattle.fk_json.proofs.ReadingOn.{Ahead}
+use Rattle.fk_json.proofs.Readings.{completes_text, unfinished}
+use Rattle.fk_json.proofs.Outcomes.{Outcome}
 
 -- a text of so many levels is one of more
 more : (outer : Bracket) (levels most : ℕ) (text : List ℕ) (items : List (Item outer)) → levels ≤ most

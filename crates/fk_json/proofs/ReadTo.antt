@@ -24,8 +24,9 @@ use Rattle.fk_json.specs.declared.fault.JsonFault.TheVariants.{Syntax, TooDeep, 
 use Rattle.fk_json.specs.Reached.{IsReadTo, Stands}
 use Rattle.fk_json.proofs.OnePlace.{text_not_deep}
 use Rattle.fk_json.proofs.Places.{ends_early, fails_at, too_deep_at}
-use Rattle.fk_json.proofs.Readings.{Ahead, goes_on, read_right, starts, whole_text}
-use Rattle.fk_json.proofs.Stands.{Outcome}
+use Rattle.fk_json.proofs.ReadingOn.{Ahead, goes_on, read_right}
+use Rattle.fk_json.proofs.Readings.{starts, whole_text}
+use Rattle.fk_json.proofs.Outcomes.{Outcome}
 use Rattle.fk_json.proofs.Strings.{one_value}
 
 pub read_starts : (outer : Bracket) (text : List ℕ) (found : List (Item outer)) (standing : Standing)

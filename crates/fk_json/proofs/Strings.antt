@@ -188,37 +188,20 @@ plain b l bare = record {
 bare_spelled : (b : ℕ) → Bare b → Spelled b
 bare_spelled b bare = elim (cases_lt b 32) [ inl l ↦ control b l bare | inr l ↦ plain b l bare ]
 
+-- a byte that is this one is spelled as it is
+or_else : (b c : ℕ) → Spelled c → (b ≢ c → Spelled b) → Spelled b
+or_else b c this other = elim (cases_eq b c) [ inl e ↦ subst Spelled (sym e) this | inr differ ↦ other differ ]
+
 spelled : (b : ℕ) → Spelled b
 spelled b =
-    elim (cases_eq b 34) [
-      | inl e ↦ subst Spelled (sym e) (escaped 34 34 refl refl refl (omega arith) (omega arith))
-      | inr n34 ↦
-          elim (cases_eq b 92) [
-            | inl e ↦ subst Spelled (sym e) (escaped 92 92 refl refl refl (omega arith) (omega arith))
-            | inr n92 ↦
-                elim (cases_eq b 8) [
-                  | inl e ↦ subst Spelled (sym e) (escaped 8 98 refl refl refl (omega arith) (omega arith))
-                  | inr n8 ↦
-                      elim (cases_eq b 9) [
-                        | inl e ↦ subst Spelled (sym e) (escaped 9 116 refl refl refl (omega arith) (omega arith))
-                        | inr n9 ↦
-                            elim (cases_eq b 10) [
-                              | inl e ↦ subst Spelled (sym e) (escaped 10 110 refl refl refl (omega arith) (omega arith))
-                              | inr n10 ↦
-                                  elim (cases_eq b 12) [
-                                    | inl e ↦ subst Spelled (sym e) (escaped 12 102 refl refl refl (omega arith) (omega arith))
-                                    | inr n12 ↦
-                                        elim (cases_eq b 13) [
-                                          | inl e ↦ subst Spelled (sym e) (escaped 13 114 refl refl refl (omega arith) (omega arith))
-                                          | inr n13 ↦
-                                              bare_spelled b (n34, n92, n8, n9, n10, n12, n13)
-                                        ]
-                                  ]
-                            ]
-                      ]
-                ]
-          ]
-    ]
+    or_else b 34 (escaped 34 34 refl refl refl (omega arith) (omega arith)) (λ n34.
+    or_else b 92 (escaped 92 92 refl refl refl (omega arith) (omega arith)) (λ n92.
+    or_else b 8 (escaped 8 98 refl refl refl (omega arith) (omega arith)) (λ n8.
+    or_else b 9 (escaped 9 116 refl refl refl (omega arith) (omega arith)) (λ n9.
+    or_else b 10 (escaped 10 110 refl refl refl (omega arith) (omega arith)) (λ n10.
+    or_else b 12 (escaped 12 102 refl refl refl (omega arith) (omega arith)) (λ n12.
+    or_else b 13 (escaped 13 114 refl refl refl (omega arith) (omega arith)) (λ n13.
+    bare_spelled b (n34, n92, n8, n9, n10, n12, n13))))))))
 
 -- the parts that are written for a value
 abbrev parts_of : List ℕ → List Part

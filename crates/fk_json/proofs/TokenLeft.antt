@@ -10,8 +10,10 @@ use Rattle.fk_json.specs.declared.token.Letters.{Letters}
 use Rattle.fk_json.specs.declared.token.Letters.TheVariants.{Ull, Ll, L, Rue, Ue, E, Alse, Lse, Se, Nothing}
 use Rattle.fk_json.specs.declared.token.Token.{Token}
 use Rattle.fk_json.specs.declared.token.Token.TheVariants as token
-use Rattle.fk_json.proofs.NumberLeft.{letters_goes, letters_may_end, letters_stops, letters_unended, number_completes, number_goes, number_may_end, number_over, number_stops, number_unended}
-use Rattle.fk_json.proofs.StringLeft.{string_completes, string_goes, string_may_end, string_stops, string_unended}
+use Rattle.fk_json.proofs.LettersLeft.{letters_goes, letters_may_end, letters_stops, letters_unended}
+use Rattle.fk_json.proofs.NumberLeft.{number_completes, number_goes, number_may_end, number_over, number_stops, number_unended}
+use Rattle.fk_json.proofs.StringCompletes.{string_completes}
+use Rattle.fk_json.proofs.StringLeft.{string_goes, string_may_end, string_stops, string_unended}
 
 -- ---- an optional value
 

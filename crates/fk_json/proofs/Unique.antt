@@ -10,7 +10,9 @@ use Rattle.fk_json.specs.declared.member.Member.{Member}
 use Rattle.fk_json.specs.declared.span.Span.{Span}
 use Rattle.fk_json.proofs.Levels.{array_more, object_more}
 use Rattle.fk_json.proofs.Parts.{tail_of}
-use Rattle.fk_json.proofs.Settled.{IsKind, elements_kind, items_same, members_kind, spaces_same, value_settled}
+use Rattle.fk_json.proofs.ItemsSettled.{IsKind, elements_kind, members_kind}
+use Rattle.fk_json.proofs.Settled.{items_same, value_settled}
+use Rattle.fk_json.proofs.TokensSame.{spaces_same}
 
 -- ---- one text, one list of items
 

@@ -1,7 +1,8 @@
 -- How a value begins.
 use Rattle.std.proofs.Common.{◌≡◌, ◌≢◌, ◌⊎◌, ◌↔◌, inl, inr, ℕ, zero, suc, true, List, [], ◌∷◌, length, option_map, Option, None, Some, refl, sym, ap, subst, arith}
 use Rattle.std.proofs.lemmas.Bool.{cases_eq, eqb-true, ne_eqb, or_cases}
-use Rattle.fk_json.proofs.NumberLeft.{literal_empty, literal_false, literal_none, literal_null, literal_true, number_begins, number_empty, number_none}
+use Rattle.fk_json.proofs.LettersLeft.{literal_empty, literal_false, literal_none, literal_null, literal_true}
+use Rattle.fk_json.proofs.NumberLeft.{number_begins, number_empty, number_none}
 use Rattle.fk_json.proofs.Parts.{head_of}
 use Rattle.fk_json.proofs.StringLeft.{string_begins, string_empty, string_none}
 use Rattle.fk_json.specs.Json.{IsArray, IsLiteral, IsObject, IsScalar, IsValue, is_space}
