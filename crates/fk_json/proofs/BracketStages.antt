@@ -15,10 +15,8 @@ use Rattle.fk_json.specs.declared.standing.Places.{Places}
 use Rattle.fk_json.specs.declared.standing.Step.TheVariants as step
 use Rattle.fk_json.specs.declared.token.Token.TheVariants.{Bracketed}
 use Rattle.fk_json.specs.Reached.{KnownBetween}
-use Rattle.fk_json.proofs.Leads.{BetweenLeft, MovedLeft}
 use Rattle.fk_json.proofs.Beginnings.{closes_inner, opens_left, opens_none, pending_at}
-use Rattle.fk_json.proofs.Equivalences.{through}
-use Rattle.fk_json.proofs.Outcomes.{Outcome, Source, finds_same, known_from, known_on, one_longer}
+use Rattle.fk_json.proofs.Outcomes.{Outcome, Source, known_from, known_on, one_longer}
 use Rattle.fk_json.proofs.Stages.{stage_leads, Stage, between_at, fits_first, fits_within, known_deeper, known_inner}
 
 -- the places behind the first byte of a value

@@ -4,7 +4,7 @@ use Rattle.std.proofs.lemmas.Bool.{and_from, and_parts, eqb-false, eqb-true, fal
 use Rattle.std.proofs.lemmas.List.{append_assoc, length-append}
 use Rattle.fk_json.specs.Json.{IsSpace, is_space}
 use Rattle.fk_json.specs.Moves.{opening}
-use Rattle.fk_json.specs.Left.{ByteThen, FirstLeft, Fits, Item, outermost}
+use Rattle.fk_json.specs.Left.{ByteThen, FirstLeft, Item, outermost}
 use Rattle.fk_json.specs.Standing.{before, behind, goes, read, read_in, to_mode}
 use Rattle.fk_json.specs.Remainder.{IsKnown, IsTextOf, LevelsLeft}
 use Rattle.fk_json.specs.declared.mode.Bracket.{Bracket}

@@ -16,7 +16,6 @@ use Rattle.fk_json.specs.declared.mode.Move.{Move}
 use Rattle.fk_json.specs.declared.mode.Move.TheVariants.{To, Names, Begins}
 use Rattle.fk_json.specs.declared.standing.Found.{Found}
 use Rattle.fk_json.specs.declared.standing.Places.{Places}
-use Rattle.fk_json.specs.declared.standing.Region.{Region}
 use Rattle.fk_json.specs.declared.standing.Region.TheVariants.{Between}
 use Rattle.fk_json.specs.declared.standing.Standing.{Standing}
 use Rattle.fk_json.specs.declared.standing.Step.TheVariants as step
