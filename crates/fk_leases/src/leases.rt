@@ -1,7 +1,7 @@
-ghost use Rattle.std.specs.Prelude.{◌≡◌, ◌≢◌, ◌↔◌, ◌++◌, ◌^◌, ◌-◌, ◌+◌, ◌<◌, ◌≤◌, ℕ, List, [], length, min, option_map, slice_get, Contains, IsFalse, IsOk, IsTrue, OnErr, OnOk, Some};
+ghost use Rattle.std.specs.Prelude.{◌≡◌, ◌↔◌, ◌++◌, ◌^◌, ◌-◌, ◌+◌, ◌<◌, length, min, option_map, slice_get, Contains, IsFalse, IsTrue, OnErr, OnOk, Some};
 ghost use Rattle.std.specs.List.{remove};
 ghost use Rattle.fk_model.specs.Orders.{with_pair};
-ghost use Rattle.fk_lists.specs.Room.{all_pairs, list_at, no_lists, mark_at, spare_at, AreNamed, IsLean, OthersStay};
+ghost use Rattle.fk_lists.specs.Room.{all_pairs, list_at, no_lists, spare_at, AreNamed, IsLean, OthersStay};
 ghost use Rattle.fk_leases.specs.Leases.{first_until, leased_ticket, until_in, run_out, without_lease, AreByTicket, IsAbsent};
 
 use fk_json::{Pairs, Text};

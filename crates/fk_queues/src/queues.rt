@@ -1,6 +1,6 @@
-ghost use Rattle.std.specs.Prelude.{◌≡◌, ◌≢◌, ◌∷◌, ◌++◌, ◌+◌, ◌-◌, ◌<◌, ◌≤◌, ℕ, List, [], drop, length, slice_get, All, IfOk, IsOk, OnErr, OnOk};
+ghost use Rattle.std.specs.Prelude.{◌≡◌, ◌∷◌, ◌++◌, ◌+◌, ◌-◌, ◌<◌, [], drop, length, slice_get, All, IfOk, OnErr, OnOk};
 ghost use Rattle.fk_model.specs.Orders.{number_in};
-ghost use Rattle.fk_lists.specs.Room.{list_at, no_lists, mark_at, spare_at, AreNamed, IsLean, OthersStay};
+ghost use Rattle.fk_lists.specs.Room.{list_at, no_lists, spare_at, AreNamed, IsLean, OthersStay};
 ghost use Rattle.fk_lists.specs.Sizes.{sizes_of};
 ghost use Rattle.fk_queues.specs.Queues.{AreByRank};
 
