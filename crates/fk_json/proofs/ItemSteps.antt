@@ -3,7 +3,7 @@ use Rattle.std.proofs.Common.{◌≡◌, ◌≢◌, inl, inr, ◌↔◌, ◌==�
 use Rattle.std.proofs.lemmas.Bool.{eqb-false, eqb-true, false≢true}
 use Rattle.fk_json.specs.Json.{IsValue, is_space}
 use Rattle.fk_json.specs.String.{IsString}
-use Rattle.fk_json.specs.Moves.{behind_item, closing, core_move, item_at, opening, value_at}
+use Rattle.fk_json.specs.Moves.{behind_item, closing, core_move, item_at, value_at}
 use Rattle.fk_json.specs.Left.{AfterLeft, ByteThen, FirstLeft, Frame, Item, ItemsLeft, NameLeft, Pending, TailLeft, WithinLeft}
 use Rattle.fk_json.specs.declared.member.Member.{Member}
 use Rattle.fk_json.specs.declared.mode.Bracket.{Bracket}

@@ -1,8 +1,7 @@
 -- What is known between the outermost brackets, and a byte there that ends nothing.
 use Rattle.std.proofs.Common.{◌≡◌, ◌↔◌, ℕ, ◌≤◌, List, [], ◌∷◌, ◌++◌, length, drop, Option, None, refl, sym, ap, subst, ◌∙◌}
 use Rattle.fk_json.specs.Moves.{innermost, most_inner}
-use Rattle.fk_json.specs.Left.{Fits, Item, ended, outermost}
-use Rattle.fk_json.specs.Standing.{between}
+use Rattle.fk_json.specs.Left.{Fits, Item}
 use Rattle.fk_json.specs.Remainder.{IsKnown, NameRest, pending_of}
 use Rattle.fk_json.specs.declared.mode.Bracket.{Bracket}
 use Rattle.fk_json.specs.declared.mode.Mode.{Mode}
@@ -16,7 +15,7 @@ use Rattle.fk_json.proofs.Stands.{GoesOn}
 use Rattle.fk_json.proofs.Outcomes.{Source}
 use Rattle.fk_json.proofs.Stages.{Stage}
 use Rattle.fk_json.proofs.Equivalences.{through}
-use Rattle.fk_json.proofs.Tame.{IsTame, IsWithin, LedName, tame}
+use Rattle.fk_json.proofs.Tame.{IsTame, IsWithin, LedName}
 
 -- what is left before a byte between the outermost brackets
 abbrev pub Here : (outer : Bracket) → List ℕ → List ℕ → List Bracket → Places → Mode → ℕ → Source outer

@@ -5,7 +5,7 @@ use Rattle.fk_json.specs.Json.{IsSpace, IsValue}
 use Rattle.fk_json.specs.String.{IsString}
 use Rattle.fk_json.specs.Tokens.{string_step}
 use Rattle.fk_json.specs.Moves.{innermost, move_of}
-use Rattle.fk_json.specs.Left.{Fits, Frame, IsNothing, Item, ModeLeft, Pending, WithinLeft, ended, outermost}
+use Rattle.fk_json.specs.Left.{Fits, Frame, IsNothing, Item, ModeLeft, Pending, WithinLeft, ended}
 use Rattle.fk_json.specs.Remainder.{NameRest, frame_in, no_item, pending_in}
 use Rattle.fk_json.specs.declared.mode.Bracket.{Bracket}
 use Rattle.fk_json.specs.declared.mode.Bracket.TheVariants.{Array, Object}

@@ -1,7 +1,6 @@
 -- What is left of a string behind the first byte of a longer character.
 use Rattle.std.proofs.Common.{◌≡◌, ◌↔◌, ℕ, ◌≤◌, List, [], ◌∷◌, Some, arith}
 use Rattle.std.specs.Str.{IsUtf8}
-use Rattle.fk_json.specs.String.{byte}
 use Rattle.fk_json.specs.Tokens.{character_first}
 use Rattle.fk_json.specs.TokenRests.{ByteThen, InsideLeft, StringLeft}
 use Rattle.fk_json.specs.declared.string_mode.StringMode.{StringMode}

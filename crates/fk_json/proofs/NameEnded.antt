@@ -5,7 +5,7 @@ use Rattle.std.proofs.lemmas.List.{append-nil}
 use Rattle.fk_json.specs.Json.{IsValue}
 use Rattle.fk_json.specs.String.{IsString}
 use Rattle.fk_json.specs.Moves.{innermost, move_of}
-use Rattle.fk_json.specs.Left.{ColonLeft, Fits, Item, ended, outermost}
+use Rattle.fk_json.specs.Left.{ColonLeft, Fits, Item, outermost}
 use Rattle.fk_json.specs.Standing.{placed}
 use Rattle.fk_json.specs.Remainder.{IsKnown, NameRest, pending_of}
 use Rattle.fk_json.specs.declared.mode.Bracket.{Bracket}

@@ -4,7 +4,7 @@ use Rattle.std.proofs.lemmas.Bool.{false≢true}
 use Rattle.std.proofs.lemmas.List.{append-nil}
 use Rattle.fk_json.specs.Moves.{most_inner, opening}
 use Rattle.fk_json.specs.Left.{ByteThen, FirstLeft, Item, Spaced, outermost}
-use Rattle.fk_json.specs.Standing.{behind, first_standing, is_whole, read}
+use Rattle.fk_json.specs.Standing.{first_standing, is_whole}
 use Rattle.fk_json.specs.Remainder.{IsTextOf, LevelsLeft, RegionLeft, pending_of}
 use Rattle.fk_json.specs.declared.mode.Bracket.{Bracket}
 use Rattle.fk_json.specs.declared.mode.Bracket.TheVariants.{Array, Object}
@@ -12,7 +12,6 @@ use Rattle.fk_json.specs.declared.standing.Places.{Places}
 use Rattle.fk_json.specs.declared.standing.Region.{Region}
 use Rattle.fk_json.specs.declared.standing.Region.TheVariants.{Before, Between, Behind}
 use Rattle.fk_json.specs.declared.standing.Standing.{Standing}
-use Rattle.fk_json.specs.declared.standing.Step.TheVariants as step
 use Rattle.fk_json.specs.Reached.{Finds, FitsIn, NamedIn, Stands}
 use Rattle.fk_json.proofs.Completes.{before_completes, between_completes}
 use Rattle.fk_json.proofs.Leads.{between_ends}

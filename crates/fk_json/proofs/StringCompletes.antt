@@ -1,6 +1,5 @@
 -- Each string that has begun can be completed.
 use Rattle.std.proofs.Common.{ℕ, ◌<◌, List, [], ◌∷◌, inl, refl, arith}
-use Rattle.fk_json.specs.String.{byte}
 use Rattle.fk_json.specs.TokenRests.{ByteThen, DigitThen, InsideLeft, StringLeft}
 use Rattle.fk_json.specs.declared.string_mode.StringMode.{StringMode}
 use Rattle.fk_json.specs.declared.string_mode.StringMode.TheVariants.{Inside, Escape, Four, Three, Two, One, LastByte, TwoBytes, ThreeBytes, NotOverlongOfThree, NoSurrogate, NotOverlongOfFour, NotPastTheLast, Closed}

@@ -4,7 +4,7 @@ use Rattle.std.proofs.lemmas.Bool.{and_from, and_parts, eqb-true, false≢true, 
 use Rattle.std.proofs.lemmas.Bool.Decides.{nat_tests}
 use Rattle.std.proofs.lemmas.List.{length-append}
 use Rattle.std.proofs.lemmas.Option.{cond_some, none-some}
-use Rattle.fk_json.specs.String.{IsHexadecimal, IsString, byte, is_letter, meaning, part_text, quote}
+use Rattle.fk_json.specs.String.{IsHexadecimal, IsString, is_letter, meaning, part_text, quote}
 use Rattle.fk_json.specs.Tokens.{behind_backslash, behind_byte, continued, digit_then, is_hexadecimal, string_ends, string_step}
 use Rattle.fk_json.specs.TokenRests.{EscapeLeft, InsideLeft, StringLeft}
 use Rattle.fk_json.specs.declared.string_mode.StringMode.{StringMode}
