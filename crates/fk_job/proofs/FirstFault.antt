@@ -20,17 +20,17 @@ first_of text members BadReserve is first = (members, is, first)
 first_of text members BadRetry is first = (members, is, first)
 first_of text members BadAt is first = (members, is, first)
 
--- the first fault, or want of memory
-abbrev pub Told : List ℕ → List Member → JobFault → Type 0
-Told text members fault = (fault ≡ NoMemory) ⊎ IsFirstFault text members fault
+-- the fault that is reported: the first, or want of memory
+abbrev pub IsReported : List ℕ → List Member → JobFault → Type 0
+IsReported text members fault = (fault ≡ NoMemory) ⊎ IsFirstFault text members fault
 
-told : (text : List ℕ) (members : List Member) (fault : JobFault) → IsObjectText most_levels text members
-    → Told text members fault → (fault ≡ NoMemory) ⊎ HasFault text fault
-told text members fault is (inl memory) = inl memory
-told text members fault is (inr first) = inr (first_of text members fault is first)
+reported : (text : List ℕ) (members : List Member) (fault : JobFault) → IsObjectText most_levels text members
+    → IsReported text members fault → (fault ≡ NoMemory) ⊎ HasFault text fault
+reported text members fault is (inl memory) = inl memory
+reported text members fault is (inr first) = inr (first_of text members fault is first)
 
-pub told_err : {X : Type 0} (r : Result X JobFault) (text : List ℕ) (members : List Member)
-    → IsObjectText most_levels text members → IfErr r (Told text members)
+pub reported_err : {X : Type 0} (r : Result X JobFault) (text : List ℕ) (members : List Member)
+    → IsObjectText most_levels text members → IfErr r (IsReported text members)
     → IfErr r (λ fault. (fault ≡ NoMemory) ⊎ HasFault text fault)
-told_err (Ok x) text members is first = tt
-told_err (Err fault) text members is first = told text members fault is first
+reported_err (Ok x) text members is first = tt
+reported_err (Err fault) text members is first = reported text members fault is first

@@ -12,7 +12,10 @@ pub mod Finding
 pub mod OneValue
 pub mod FirstFault
 pub mod OneJob
+pub mod Shorter
 pub mod Within
+pub mod Bytes
+pub mod JobSpelled
 pub mod Seen
 pub mod Joined
 pub mod OneFault

@@ -13,7 +13,7 @@ use Rattle.fk_job.specs.Members.{given_value}
 use Rattle.fk_job.specs.Fields.{IsMomentOf, IsQueueNamed, default_queue, default_reserve, default_retry, reserve_seconds, retries}
 use Rattle.fk_job.specs.JobText.{HasArgs, HasAt, HasLongJid, HasQueue, HasReserve, HasRetry, HasType, IsFirstFault, IsJob}
 use Rattle.fk_job.specs.Values.{IsAtIn, IsQueueIn, IsReserveIn, IsRetryIn}
-use Rattle.fk_job.proofs.FirstFault.{Told}
+use Rattle.fk_job.proofs.FirstFault.{IsReported}
 use Rattle.fk_job.proofs.OneValue.{one_string}
 
 -- ---- each field is one
@@ -120,12 +120,12 @@ no_fault text members job fault is =
     ]
 
 only_memory : (text : List ℕ) (members : List Member) (job : Job) (fault : JobFault) → IsJob text members job
-    → Told text members fault → fault ≡ NoMemory
+    → IsReported text members fault → fault ≡ NoMemory
 only_memory text members job fault is (inl memory) = memory
 only_memory text members job fault is (inr first) = absurd (no_fault text members job fault is first)
 
 pub read_whole : (r : Result Job JobFault) (text : List ℕ) (members : List Member) (job : Job)
-    → IsJob text members job → IfOk r (IsJob text members) → IfErr r (Told text members)
+    → IsJob text members job → IfOk r (IsJob text members) → IfErr r (IsReported text members)
     → MatchResult r (λ found. found ≡ job) (λ fault. fault ≡ NoMemory)
 read_whole (Ok found) text members job is ok err = one_job text members found job ok is
 read_whole (Err fault) text members job is ok err = only_memory text members job fault is err

@@ -1,9 +1,10 @@
--- No name of a job is longer than the job's text.
+-- No text of a job is longer than the text that the job is of.
 use Rattle.std.proofs.Common.{◌≡◌, ℕ, ◌-◌, ◌≤◌, Bool, true, false, if◌then◌else◌, List, [], ◌∷◌, length, take, drop, Option, None, Some, MatchOption, Result, Ok, Err, IfOk, find, reverse, codes, ap, arith}
 use Rattle.std.proofs.lemmas.List.{length-drop, length-take}
 use Rattle.std.specs.Option.{option_map}
 use Rattle.std.specs.Str.{bytes_eq}
 use Rattle.fk_json.specs.declared.member.Member.{Member}
+use Rattle.fk_json.specs.Json.{IsObjectText}
 use Rattle.fk_json.specs.String.{IsString}
 use Rattle.fk_json.proofs.Unique.{string_shorter}
 use Rattle.fk_job.specs.declared.job.Job.{Job}
@@ -11,6 +12,7 @@ use Rattle.fk_job.specs.Members.{is_named, sent_value, unless_null}
 use Rattle.fk_job.specs.Fields.{HasString, IsQueueNamed, default_queue}
 use Rattle.fk_job.specs.JobText.{IsJob, IsWithin}
 use Rattle.fk_job.specs.Values.{IsQueueIn}
+use Rattle.fk_job.proofs.Shorter.{body_shorter}
 
 part_shorter : (n : ℕ) (text : List ℕ) → length (take n text) ≤ length text
 part_shorter n text = omega (arith, length-take n text)
@@ -55,18 +57,19 @@ queue_shorter text queue None long is = omega (arith, ap length is)
 queue_shorter text queue (Some member) long is =
     given_shorter text queue member (bytes_eq (sent_value text member) (codes "null")) long is
 
-is_within : (text : List ℕ) (members : List Member) (job : Job) → IsJob text members job
-    → IsWithin (length text) job
-is_within text members job is =
+pub is_within : (levels : ℕ) (text : List ℕ) (members : List Member) (job : Job)
+    → IsObjectText levels text members → IsJob text members job → IsWithin (length text) job
+is_within levels text members job object is =
     let jid = string_within text members (codes "jid") job.jid is.named in
     let long : 8 ≤ length text = omega (arith, jid, is.long) in
     record {
       jid = jid;
       jobtype = string_within text members (codes "jobtype") job.jobtype is.typed;
       queue = queue_shorter text job.queue (find (is_named (codes "queue")) (reverse members)) long is.queued;
+      body = omega (arith, ap length is.body, body_shorter levels text members object);
     }
 
-pub within_ok : {E : Type 0} (r : Result Job E) (text : List ℕ) (members : List Member)
-    → IfOk r (IsJob text members) → IfOk r (IsWithin (length text))
-within_ok (Ok job) text members is = is_within text members job is
-within_ok (Err fault) text members is = tt
+pub within_ok : {E : Type 0} (r : Result Job E) (levels : ℕ) (text : List ℕ) (members : List Member)
+    → IsObjectText levels text members → IfOk r (IsJob text members) → IfOk r (IsWithin (length text))
+within_ok (Ok job) levels text members object is = is_within levels text members job object is
+within_ok (Err fault) levels text members object is = tt

@@ -36,11 +36,11 @@ given_again : (value : Option (List ℕ)) (queue : List ℕ)
 given_again None queue e = subst (λ q. IsQueueNamed q q) (sym e) default_again
 given_again (Some value) queue (name, is, named) = named_again name queue named
 
-queue_again : (text : List ℕ) (members : List Member) (queue : List ℕ) → IsQueue text members queue
+pub queue_again : (text : List ℕ) (members : List Member) (queue : List ℕ) → IsQueue text members queue
     → IsQueueNamed queue queue
 queue_again text members queue is = given_again (given_value text members (codes "queue")) queue is
 
-named_utf8 : (queue : List ℕ) → IsQueueNamed queue queue → IsUtf8 queue
+pub named_utf8 : (queue : List ℕ) → IsQueueNamed queue queue → IsUtf8 queue
 named_utf8 [] named = IsUtf8-nil
 named_utf8 (first ∷ name) named = queue_utf8 (first ∷ name) named.1
 

@@ -79,8 +79,9 @@ abbrev pub IsJobOf : List ℕ → Job → Type 0
 IsJobOf text job =
     (members : List Member) × IsObjectText most_levels text members × IsJob text members job
 
--- the job's names are at most so long
+-- the job's texts are at most so long
 pub record IsWithin (bound : ℕ) (job : Job) : Type 0 where
   pub jid : length job.jid ≤ bound
   pub jobtype : length job.jobtype ≤ bound
   pub queue : length job.queue ≤ bound
+  pub body : length job.body ≤ bound

@@ -3,6 +3,7 @@ pub mod RowText
 pub mod Faults
 pub mod Members
 pub mod Fields
+pub mod Spellings
 pub mod Values
 pub mod Pieces
 pub mod JobText

@@ -1,7 +1,6 @@
 //! The payload of a job: what a producer sends, and what a worker is given.
 #![tactic(auto)]
 
-mod again;
 mod body;
 mod counting;
 mod failure;
@@ -11,6 +10,7 @@ mod fault_tests;
 mod fields;
 mod job;
 mod jobs;
+pub mod laws;
 mod named;
 mod reading;
 #[cfg(test)]
@@ -19,7 +19,6 @@ mod stamp;
 mod values;
 mod writing;
 
-pub use again::a_written_job_is_read_again;
 pub use failure::Failure;
 pub use fault::JobFault;
 pub use job::Job;

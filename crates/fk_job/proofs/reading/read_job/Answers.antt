@@ -1,15 +1,18 @@
-use Rattle.fk_job.proofs.FirstFault.{told_err}
+use Rattle.fk_json.specs.Json.{most_levels}
+use Rattle.fk_job.proofs.FirstFault.{reported_err}
 use Rattle.fk_job.proofs.OneJob.{no_memory, read_whole}
 use Rattle.fk_job.proofs.Within.{within_ok}
 use Rattle.fk_job.proofs.reading.read_job.Goals as goal
 
 pub returns-clause-fault : goal.returns-clause-fault
 returns-clause-fault c =
-    told_err c.job_of.result c.args.text.now c.in_ok-members.members c.in_ok-members.ensures.ok
+    reported_err c.job_of.result c.args.text.now c.in_ok-members.members c.in_ok-members.ensures.ok
     (rw c.as_slice.ensures at c.job_of.ensures.fault)
 
 pub returns-clause-short : goal.returns-clause-short
-returns-clause-short c = within_ok c.job_of.result c.args.text.now c.as_slice.result.now c.job_of.ensures.ok
+returns-clause-short c =
+    within_ok c.job_of.result most_levels c.args.text.now c.in_ok-members.members c.in_ok-members.ensures.ok
+    (rw c.as_slice.ensures at c.job_of.ensures.ok)
 
 pub returns-in_err-members-clause-whole : goal.returns-in_err-members-clause-whole
 returns-in_err-members-clause-whole c = λ job (members, is, has).
