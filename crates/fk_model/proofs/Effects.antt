@@ -10,7 +10,8 @@ use Rattle.fk_model.specs.Limits.{greatest_next}
 use Rattle.fk_model.specs.Rows.{ticket_of, row_of, row_at, with_changed, without_row}
 use Rattle.fk_model.specs.State.{KeptState}
 use Rattle.fk_model.specs.Orders.{rank_of}
-use Rattle.fk_model.specs.Spellings.{IsText, HasSpelling}
+use Rattle.fk_job.specs.Spellings.{IsText}
+use Rattle.fk_model.specs.Spellings.{HasSpelling}
 use Rattle.fk_model.specs.Between.{IsAboveAll, IsWellKept}
 use Rattle.fk_model.specs.Changes.{put_row, after_move, Fits, FitInTurn, IsTotals}
 use Rattle.fk_model.specs.Requests.{reserved_row, reserved, finished}

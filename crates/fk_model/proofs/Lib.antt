@@ -34,3 +34,6 @@ pub mod Onward
 pub mod Total
 pub mod Payload
 pub mod OneScript
+pub mod Parted
+pub mod AskRange
+pub mod LineRange

@@ -20,7 +20,7 @@ use Rattle.fk_model.specs.declared.item.Phase.TheVariants.{Greeted, Accepted, Ov
 use Rattle.fk_model.specs.Answers.{IsToldApart}
 use Rattle.fk_model.specs.Commands.{arguments, is_plain_hello}
 use Rattle.fk_model.specs.Out.{own_replies}
-use Rattle.fk_model.specs.Payloads.{IsBatch, IsPushed, acknowledged, fault_text, object_read, ok, refused, string_among}
+use Rattle.fk_model.specs.Payloads.{IsBatch, IsPushed, accepted, acknowledged, fault_text, object_read, refused, string_among}
 use Rattle.fk_model.specs.Script.{AreGiven, AreItemsFrom, AreItemsOf, Command, IsGiven, IsScript, ack, batch, command_of, end, fetch, handshake_items, hello, hello_first, not_served, phase_after, push, too_long, unknown}
 use Rattle.fk_model.proofs.Outs.{own_replies-append}
 use Rattle.fk_model.proofs.ToldApart.{a_status, an_error}
@@ -90,7 +90,7 @@ an_ack : (found : Option Members)
 an_ack None = bad_json
 an_ack (Some members) = a_jid (string_among (codes "jid") members)
 
-a_hello : (plain : Bool) → AreApart ((if plain then ok else not_served) ∷ [])
+a_hello : (plain : Bool) → AreApart ((if plain then accepted else not_served) ∷ [])
 a_hello true = own_one _ (a_status (codes "OK"))
 a_hello false = what_is_not_served
 

@@ -12,7 +12,8 @@ use Rattle.fk_model.specs.Limits.{greatest_next}
 use Rattle.fk_model.specs.Rows.{ticket_of, row_of}
 use Rattle.fk_model.specs.State.{KeptState}
 use Rattle.fk_model.specs.Orders.{rank_of}
-use Rattle.fk_model.specs.Spellings.{IsWord, IsMoment, HasJobSpelling, HasRowSpelling}
+use Rattle.fk_job.specs.Spellings.{HasJobSpelling, IsMoment}
+use Rattle.fk_model.specs.Spellings.{IsWord, HasRowSpelling}
 use Rattle.fk_model.specs.Between.{IsAboveAll}
 use Rattle.fk_model.specs.Changes.{after_move, after_moves, ComesLast, Fits, FitInTurn, IsTotals}
 use Rattle.fk_model.specs.Requests.{due_at, is_later, pushed_row, all_pushed}

@@ -14,7 +14,7 @@ use Rattle.fk_model.specs.Limits.{greatest_next}
 use Rattle.fk_model.specs.Rows.{ticket_of}
 use Rattle.fk_model.specs.State.{KeptState, State}
 use Rattle.fk_model.specs.Orders.{first_waiting, leased}
-use Rattle.fk_model.specs.Spellings.{IsText, HasJobSpelling}
+use Rattle.fk_job.specs.Spellings.{HasJobSpelling, IsText}
 use Rattle.fk_model.specs.Between.{IsWellKept}
 use Rattle.fk_model.specs.Range.{IsInRange}
 use Rattle.fk_model.specs.Requests.{is_held_back, fetched, finished}

@@ -26,17 +26,17 @@ unfolding is_pair
 is_itself (a, b) = grind (arith, nat_tests)
 
 -- a pair that is counted stands somewhere
-record Stands (pair : ℕ × ℕ) (pairs : List (ℕ × ℕ)) : Type 0 where
+record IsAmong (pair : ℕ × ℕ) (pairs : List (ℕ × ℕ)) : Type 0 where
   front : List (ℕ × ℕ)
   back : List (ℕ × ℕ)
   whole : pairs ≡ front ++ pair ∷ back
 
-stands_if : (pair one : ℕ × ℕ) (pairs : List (ℕ × ℕ)) (test : Bool) → is_pair pair one ≡ test
+among_if : (pair one : ℕ × ℕ) (pairs : List (ℕ × ℕ)) (test : Bool) → is_pair pair one ≡ test
     → 0 < count_by (is_pair pair) (one ∷ pairs)
-    → (0 < count_by (is_pair pair) pairs → Stands pair pairs) → Stands pair (one ∷ pairs)
-stands_if pair one pairs true e some rest =
+    → (0 < count_by (is_pair pair) pairs → IsAmong pair pairs) → IsAmong pair (one ∷ pairs)
+among_if pair one pairs true e some rest =
     record { front = []; back = pairs; whole = rw (same_from_test pair one e) refl }
-stands_if pair one pairs false e some rest =
+among_if pair one pairs false e some rest =
     let split : sum_by (one_for (is_pair pair)) (one ∷ pairs)
     ≡ one_for (is_pair pair) one + sum_by (one_for (is_pair pair)) pairs =
     sum_by-cons (one_for (is_pair pair)) one pairs in
@@ -48,10 +48,10 @@ stands_if pair one pairs false e some rest =
       whole = ap (λ xs. one ∷ xs) there.whole;
     }
 
-stands : (pair : ℕ × ℕ) (pairs : List (ℕ × ℕ)) → 0 < count_by (is_pair pair) pairs → Stands pair pairs
-stands pair [] some = absurd (omega (arith, some))
-stands pair (one ∷ pairs) some =
-    stands_if pair one pairs (is_pair pair one) refl some (stands pair pairs)
+among : (pair : ℕ × ℕ) (pairs : List (ℕ × ℕ)) → 0 < count_by (is_pair pair) pairs → IsAmong pair pairs
+among pair [] some = absurd (omega (arith, some))
+among pair (one ∷ pairs) some =
+    among_if pair one pairs (is_pair pair one) refl some (among pair pairs)
 
 -- ---- the same pairs
 
@@ -101,7 +101,7 @@ pub same_sorted : (pairs others : List (ℕ × ℕ)) → AreSame pairs others �
 unfolding in_order
 same_sorted [] others same = none_left others same
 same_sorted (pair ∷ pairs) others same =
-    let there = stands pair others (is_there pair pairs others same) in
+    let there = among pair others (is_there pair pairs others same) in
     ap (with_pair pair) (same_sorted pairs (there.front ++ there.back)
     (fewer pair pairs others there.front there.back same there.whole))
     ∙ sym (sorted_around there.front there.back pair) ∙ sym (ap in_order there.whole)

@@ -10,10 +10,6 @@ greatest_next = 2 ^ 62
 abbrev pub greatest_count : ℕ
 greatest_count = 2 ^ 64 - 1
 
--- a text has fewer bytes than this, and a list fewer items
-abbrev pub text_limit : ℕ
-text_limit = 2 ^ 32
-
 -- the milliseconds of a second
 abbrev pub second_length : ℕ
 second_length = 1000

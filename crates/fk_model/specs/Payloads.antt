@@ -22,8 +22,8 @@ use Rattle.fk_model.specs.declared.item.Item.{Item}
 use Rattle.fk_model.specs.declared.item.Item.TheVariants.{Own, Asks}
 use Rattle.fk_model.specs.Commands.{is_space}
 
-abbrev pub ok : Item
-ok = Own (Status (codes "OK"))
+abbrev pub accepted : Item
+accepted = Own (Status (codes "OK"))
 
 abbrev pub refused : List ℕ → Item
 refused text = Own (Error (codes "ERR " ++ text))

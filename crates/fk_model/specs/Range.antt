@@ -1,11 +1,11 @@
 -- The asks that a turn may be made of: what they bring can be written into a file.
 use Rattle.std.specs.Prelude.{◌<◌, List, length, IfSome, All}
 use Rattle.fk_job.specs.declared.job.Job.{Job}
+use Rattle.fk_job.specs.Spellings.{HasJobSpelling, IsText, text_limit}
 use Rattle.fk_model.specs.declared.mutation.Filter.{Filter}
 use Rattle.fk_model.specs.declared.ask.Ask.{Ask}
 use Rattle.fk_model.specs.declared.ask.Ask.TheVariants.{Hello, Push, PushBatch, Fetch, Ack, Fail, Beat, Signal, Info, Flush, Mutate, Tick}
-use Rattle.fk_model.specs.Limits.{text_limit}
-use Rattle.fk_model.specs.Spellings.{IsText, AreTexts, HasJobSpelling}
+use Rattle.fk_model.specs.Spellings.{AreTexts}
 
 -- jobs, fewer than 2^32
 pub record AreJobs (jobs : List Job) : Type 0 where
@@ -33,3 +33,10 @@ IsInRange Info = Unit {0}
 IsInRange Flush = Unit {0}
 IsInRange (Mutate cmd target filter) = IsFilter filter
 IsInRange Tick = Unit {0}
+
+-- What serde_json decodes of an ask's line, or writes for it, is a text. No clause of serde_json bounds it
+-- by the line, so its length is tested where it comes.
+abbrev pub HasJsonTexts : Ask → Type 0
+HasJsonTexts (PushBatch jobs told) = IsText told
+HasJsonTexts (Ack jid) = IsText jid
+HasJsonTexts other = Unit {0}

@@ -9,7 +9,7 @@ use Rattle.fk_model.specs.declared.item.Item.{Item}
 use Rattle.fk_model.specs.declared.item.Phase.{Phase}
 use Rattle.fk_model.specs.declared.item.Phase.TheVariants.{Greeted, Accepted, Over}
 use Rattle.fk_model.specs.Commands.{arguments, has_verb, is_plain_hello}
-use Rattle.fk_model.specs.Payloads.{IsAcknowledged, IsBatch, IsFetched, IsPushed, ok, refused}
+use Rattle.fk_model.specs.Payloads.{IsAcknowledged, IsBatch, IsFetched, IsPushed, accepted, refused}
 
 -- the server speaks first
 abbrev pub greeting : List ℕ
@@ -50,7 +50,7 @@ hello_first = refused (codes "HELLO first")
 -- what a line gives before a HELLO was accepted: nothing for END
 abbrev pub handshake_items : List ℕ → Command → List Item
 handshake_items line end = []
-handshake_items line hello = (if is_plain_hello line then ok else not_served) ∷ []
+handshake_items line hello = (if is_plain_hello line then accepted else not_served) ∷ []
 handshake_items line push = hello_first ∷ []
 handshake_items line batch = hello_first ∷ []
 handshake_items line fetch = hello_first ∷ []

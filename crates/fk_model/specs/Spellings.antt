@@ -1,54 +1,23 @@
 -- The bounds of what is written into a file: of a move with a spelling each number, text and list is
 -- within its bound.
-use Rattle.std.specs.Prelude.{ℕ, ◌<◌, ◌≤◌, pos, neg_ℤ, ◌≤ℤ◌, FitsSigned, List, length, Option, IfSome, All}
-use Rattle.std.specs.Int.{w64}
-use Rattle.std.specs.List.{AllPass}
-use Rattle.fk_time.specs.Moments.{greatest}
-use Rattle.fk_job.specs.declared.job.Job.{Job}
+use Rattle.std.specs.Prelude.{ℕ, ◌<◌, ◌≤◌, List, length, Option, IfSome, All}
 use Rattle.fk_job.specs.declared.failure.Failure.{Failure}
-use Rattle.fk_job.specs.Fields.{is_queue_byte, least_reserve, most_reserve}
+use Rattle.fk_job.specs.Spellings.{HasJobSpelling, IsMoment, IsText, text_limit}
 use Rattle.fk_model.specs.declared.row.Row.{Row}
 use Rattle.fk_model.specs.declared.place.Place.{Place}
 use Rattle.fk_model.specs.declared.place.Place.TheVariants.{Queued, Scheduled, Retry, Dead, Working}
 use Rattle.fk_model.specs.declared.move_.Move.{Move}
 use Rattle.fk_model.specs.declared.move_.Move.TheVariants.{Add, Put, Drop, DropAll, Totals}
-use Rattle.fk_model.specs.Limits.{greatest_count, text_limit}
+use Rattle.fk_model.specs.Limits.{greatest_count}
 
 -- a number of 64 bits
 abbrev pub IsWord : ℕ → Type 0
 IsWord n = n ≤ greatest_count
 
--- a moment up to the greatest
-abbrev pub IsMoment : ℕ → Type 0
-IsMoment moment = moment ≤ greatest
-
--- bytes, fewer than 2^32
-pub record IsText (text : List ℕ) : Type 0 where
-  pub bytes : All (λ byte. byte < 256) text
-  pub short : length text < text_limit
-
--- such texts, fewer than 2^32
+-- texts, fewer than 2^32
 pub record AreTexts (texts : List (List ℕ)) : Type 0 where
   pub each : All IsText texts
   pub short : length texts < text_limit
-
--- a queue of a job: a name, not empty, of ASCII letters and digits, `.`, `_` and `-`
-pub record IsQueueName (name : List ℕ) : Type 0 where
-  pub some : 0 < length name
-  pub plain : AllPass is_queue_byte name
-
--- a job that a file can hold
-pub record HasJobSpelling (job : Job) : Type 0 where
-  pub jid : IsText job.jid
-  pub jobtype : IsText job.jobtype
-  pub queue : IsText job.queue
-  pub named : IsQueueName job.queue
-  pub retry : neg_ℤ (pos 1) ≤ℤ job.retry
-  pub retries : FitsSigned w64 job.retry
-  pub least : least_reserve ≤ job.reserve_for
-  pub most : job.reserve_for ≤ most_reserve
-  pub due : IfSome job.at IsMoment
-  pub body : IsText job.body
 
 -- a failure that a file can hold
 pub record HasFailureSpelling (failure : Failure) : Type 0 where

@@ -1,7 +1,8 @@
 // Whether an ask is one that a turn may be made of, tested part by part.
 ghost use Rattle.std.specs.Prelude.{◌+◌, ◌<◌, ◌↔◌, All, drop, length, IfSome, IsTrue};
+ghost use Rattle.fk_job.specs.Spellings.{HasJobSpelling, IsText};
 ghost use Rattle.fk_model.specs.Range.{AreJobs, IsFilter, IsInRange};
-ghost use Rattle.fk_model.specs.Spellings.{AreTexts, HasJobSpelling, IsText};
+ghost use Rattle.fk_model.specs.Spellings.{AreTexts};
 
 use crate::spelling::{are_texts, has_job_spelling, is_text};
 use crate::{Ask, Batch, Filter};

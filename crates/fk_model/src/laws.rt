@@ -1,17 +1,57 @@
 //! Laws over the definitions of scripts, states, turns and histories. Each is the contract of a function
 //! that does nothing.
 
-ghost use Rattle.std.specs.Prelude.{◌≡◌, ◌++◌, ◌↔◌, All, AllPairs, Bool, List, count_by, false, ℕ};
+ghost use Rattle.std.specs.Prelude.{◌≡◌, ◌≢◌, ◌<◌, ◌≤◌, ◌↔◌, ◌∷◌, ◌++◌, [], All, AllPairs, Bool, List, count_by, false, length, ℕ};
+ghost use Rattle.fk_time.specs.Moments.{greatest};
+ghost use Rattle.fk_frame.specs.Lines.{longest_line};
+ghost use Rattle.fk_frame.specs.declared.line_reader.Line.TheVariants.{Whole};
+ghost use Rattle.fk_job.specs.Spellings.{AreBytes};
 ghost use Rattle.fk_model.specs.declared.ask.Ask.{Ask as AnAsk};
 ghost use Rattle.fk_model.specs.declared.entry.Entry.{Entry as AnEntry};
 ghost use Rattle.fk_model.specs.declared.item.Item.{Item as AnItem};
-ghost use Rattle.fk_model.specs.State.{State};
+ghost use Rattle.fk_model.specs.declared.item.Item.TheVariants.{Asks};
+ghost use Rattle.fk_model.specs.declared.item.Phase.{Phase as APhase};
+ghost use Rattle.fk_model.specs.Limits.{greatest_next};
+ghost use Rattle.fk_model.specs.State.{State, empty, without_workers};
 ghost use Rattle.fk_model.specs.Orders.{comes_before, in_order};
-ghost use Rattle.fk_model.specs.Turns.{turn};
+ghost use Rattle.fk_model.specs.Range.{HasJsonTexts, IsInRange};
+ghost use Rattle.fk_model.specs.Between.{IsBetweenTurns};
+ghost use Rattle.fk_model.specs.Changes.{after_moves, EndsWithTotals, Lead};
+ghost use Rattle.fk_model.specs.Turns.{moves_of_turn, turn};
 ghost use Rattle.fk_model.specs.Answers.{IsToldApart};
-ghost use Rattle.fk_model.specs.History.{state_after, faults_after, IsLegalFrom};
-ghost use Rattle.fk_model.specs.Out.{own_replies};
-ghost use Rattle.fk_model.specs.Script.{IsScript};
+ghost use Rattle.fk_model.specs.History.{IsLegalFrom, IsOverLimit, faults_after, state_after};
+ghost use Rattle.fk_model.specs.Out.{asks_of, own_replies};
+ghost use Rattle.fk_model.specs.Script.{AreItemsOf, IsScript};
+
+// ---- scripts
+
+/// Each stream has one script: what it gives is one list of items.
+pub fn a_stream_has_one_script()
+    ensures { (bytes : List ℕ) → (items : List AnItem) × IsScript bytes items
+        × ((others : List AnItem) → IsScript bytes others → others ≡ items) }
+{}
+
+/// A turn may be made of each ask that a line gives, and so of each in a script, if what serde_json
+/// decodes or writes of it is a text: no line is long enough for a job, a name or a list beyond its
+/// bound.
+pub fn an_ask_of_a_line_is_in_range()
+    ensures line { (phase : APhase) (line : List ℕ) (ask : AnAsk)
+        → AreBytes line → length line ≤ longest_line → AreItemsOf phase (Whole line) (Asks ask ∷ [])
+        → HasJsonTexts ask → IsInRange ask }
+    ensures script { (bytes : List ℕ) (items : List AnItem) → AreBytes bytes → IsScript bytes items
+        → All (λ ask. HasJsonTexts ask → IsInRange ask) (asks_of items) }
+{}
+
+/// What a turn says, and what a script replies of its own, is never taken for the answer of a turn that
+/// couldn't be made.
+pub fn a_reply_is_told_apart()
+    ensures said { (s : State) (ask : AnAsk) (moment word : ℕ)
+        → IsToldApart (turn s ask moment word).reply }
+    ensures own { (bytes : List ℕ) (items : List AnItem) → IsScript bytes items
+        → All IsToldApart (own_replies items) }
+{}
+
+// ---- orders
 
 /// Sorting pairs is a sort: no pair comes before one that stands ahead of it, and each is there as
 /// often as it was.
@@ -21,6 +61,36 @@ pub fn pairs_are_sorted()
     ensures same { (test : ℕ × ℕ → Bool) (pairs : List (ℕ × ℕ))
         → count_by test (in_order pairs) ≡ count_by test pairs }
 {}
+
+// ---- a turn
+
+/// A turn that isn't over its limit keeps what holds between turns.
+pub fn a_turn_keeps_what_holds_between_turns()
+    ensures { (s : State) (ask : AnAsk) (moment word : ℕ)
+        → IsBetweenTurns s → IsInRange ask → moment < greatest
+        → ¬ IsOverLimit s ask moment word
+        → IsBetweenTurns (turn s ask moment word).state }
+{}
+
+/// The moves of a turn make its kept state of the one before it, the numbers last, and there is none
+/// exactly where the kept state stays. Where the turn isn't over its limit, each of them fits.
+pub fn the_moves_of_a_turn_lead_to_its_state()
+    ensures come { (s : State) (ask : AnAsk) (moment word : ℕ) → IsBetweenTurns s
+        → (turn s ask moment word).state.kept
+        ≡ after_moves s.kept (moves_of_turn s ask moment word) }
+    ensures stays { (s : State) (ask : AnAsk) (moment word : ℕ) → IsBetweenTurns s
+        → ((moves_of_turn s ask moment word ≡ [])
+        ↔ ((turn s ask moment word).state.kept ≡ s.kept)) }
+    ensures ends { (s : State) (ask : AnAsk) (moment word : ℕ) → IsBetweenTurns s
+        → moves_of_turn s ask moment word ≢ []
+        → EndsWithTotals (moves_of_turn s ask moment word) }
+    ensures lead { (s : State) (ask : AnAsk) (moment word : ℕ)
+        → IsBetweenTurns s → IsInRange ask → moment < greatest
+        → ¬ IsOverLimit s ask moment word
+        → Lead s.kept (moves_of_turn s ask moment word) (turn s ask moment word).state.kept }
+{}
+
+// ---- a history
 
 /// A history that goes on: the state after the whole is that after its second part, from the state
 /// after its first, and so is the count of faults.
@@ -34,17 +104,22 @@ pub fn a_history_goes_on()
         ↔ (IsLegalFrom s n front × IsLegalFrom (state_after s front) (faults_after n front) back)) }
 {}
 
-/// What a turn says, and what a script replies of its own, is never taken for the answer of a turn that
-/// couldn't be made.
-pub fn a_reply_is_told_apart()
-    ensures said { (s : State) (ask : AnAsk) (moment word : ℕ)
-        → IsToldApart (turn s ask moment word).reply }
-    ensures own { (bytes : List ℕ) (items : List AnItem) → IsScript bytes items
-        → All IsToldApart (own_replies items) }
+/// A new server is as it is between turns, and so is each state of a legal history that begins in such
+/// a one: the state behind each of its beginnings, the whole history among them.
+pub fn a_legal_history_keeps_what_holds_between_turns()
+    ensures begins { IsBetweenTurns (without_workers empty) }
+    ensures keeps { (s : State) (n : ℕ) (front back : List AnEntry)
+        → IsBetweenTurns s → IsLegalFrom s n (front ++ back)
+        → IsBetweenTurns (state_after s front) }
 {}
 
-/// Each stream has one script: what it gives is one list of items.
-pub fn a_stream_has_one_script()
-    ensures { (bytes : List ℕ) → (items : List AnItem) × IsScript bytes items
-        × ((others : List AnItem) → IsScript bytes others → others ≡ items) }
+/// No legal history leads to a next number beyond the greatest: not that of a new server, nor one from
+/// a state whose next number is within it. A turn that would is answered by Full.
+pub fn a_legal_history_stays_within_its_limit()
+    ensures new { (n : ℕ) (front back : List AnEntry)
+        → IsLegalFrom (without_workers empty) n (front ++ back)
+        → (state_after (without_workers empty) front).kept.next ≤ greatest_next }
+    ensures within { (s : State) (n : ℕ) (front back : List AnEntry)
+        → s.kept.next ≤ greatest_next → IsLegalFrom s n (front ++ back)
+        → (state_after s front).kept.next ≤ greatest_next }
 {}

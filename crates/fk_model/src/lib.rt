@@ -8,7 +8,7 @@ mod batch;
 mod entry;
 mod in_range;
 mod item;
-mod laws;
+pub mod laws;
 mod move_;
 mod moves;
 mod mutation;
@@ -16,7 +16,6 @@ mod place;
 mod row;
 mod spelling;
 mod told;
-mod turn_laws;
 mod work_state;
 
 pub use answer::Answer;
@@ -24,14 +23,10 @@ pub use ask::Ask;
 pub use batch::Batch;
 pub use entry::Entry;
 pub use item::{Item, Phase};
-pub use laws::{
-    a_history_goes_on, a_reply_is_told_apart, a_stream_has_one_script, pairs_are_sorted,
-};
 pub use move_::Move;
 pub use moves::Moves;
 pub use mutation::{Cmd, Filter, Target};
 pub use place::Place;
 pub use row::Row;
 pub use told::{Compaction, Told};
-pub use turn_laws::{a_turn_keeps_what_holds_between_turns, the_moves_of_a_turn_lead_to_its_state};
 pub use work_state::WorkState;

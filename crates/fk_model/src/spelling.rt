@@ -2,7 +2,8 @@
 ghost use Rattle.std.specs.Prelude.{◌≡◌, ◌≤◌, ◌<◌, ◌↔◌, pos, neg_ℤ, ◌≤ℤ◌, FitsSigned, IfSome, IsTrue};
 ghost use Rattle.std.specs.Int.{w64};
 ghost use Rattle.fk_job.specs.Fields.{is_queue_byte, least_reserve, most_reserve};
-ghost use Rattle.fk_model.specs.Spellings.{AreTexts, HasFailureSpelling, HasJobSpelling, HasPlaceSpelling, HasRestSpelling, HasRowSpelling, HasSpelling, IsMoment, IsQueueName, IsText};
+ghost use Rattle.fk_job.specs.Spellings.{HasJobSpelling, IsMoment, IsQueueName, IsText};
+ghost use Rattle.fk_model.specs.Spellings.{AreTexts, HasFailureSpelling, HasPlaceSpelling, HasRestSpelling, HasRowSpelling, HasSpelling};
 
 use crate::{Move, Place, Row};
 use fk_job::{Failure, Job};

@@ -4,7 +4,7 @@ ghost use Rattle.fk_frame.specs.Replies.{IsOneLine};
 ghost use Rattle.fk_frame.specs.declared.reply.Reply.TheVariants.{Error};
 ghost use Rattle.fk_job.specs.JobText.{HasFault, IsJobOf};
 ghost use Rattle.fk_model.specs.declared.item.Item.TheVariants.{Own};
-ghost use Rattle.fk_model.specs.Payloads.{fault_text, ok, refused};
+ghost use Rattle.fk_model.specs.Payloads.{accepted, fault_text, refused};
 ghost use Rattle.fk_server.specs.Turning.{IsInForm};
 
 use fk_frame::Reply;
@@ -15,7 +15,7 @@ use std::alloc::{AllocError, Global};
 
 /// The reply `+OK`.
 pub(crate) fn accept(alloc: Global) -> Item
-    ensures item { result ≡ ok }
+    ensures item { result ≡ accepted }
     ensures form { IsInForm result }
 {
     Item::Own(Reply::Status(Text::fixed(alloc, b"OK")))

@@ -1,6 +1,6 @@
 use Rattle.std.proofs.Common.{◌↔◌, drop}
 use Rattle.std.specs.Prelude.{All}
-use Rattle.fk_model.specs.Spellings.{HasJobSpelling}
+use Rattle.fk_job.specs.Spellings.{HasJobSpelling}
 use Rattle.fk_model.proofs.in_range.are_spelled.Given as goal
 
 -- what is left of the jobs tells of all of them

@@ -1,5 +1,5 @@
 use Rattle.std.proofs.Common.{sym}
-use Rattle.fk_model.specs.Spellings.{HasJobSpelling}
+use Rattle.fk_job.specs.Spellings.{HasJobSpelling}
 use Rattle.fk_model.proofs.Onward.{all_onward, none_within}
 use Rattle.fk_model.proofs.in_range.is_spelled_at.Goals as goal
 

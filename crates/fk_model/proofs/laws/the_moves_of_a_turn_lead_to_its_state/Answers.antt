@@ -1,5 +1,5 @@
 use Rattle.fk_model.proofs.Turning.{turn_comes, turn_stays, turn_ends, turn_leads}
-use Rattle.fk_model.proofs.turn_laws.the_moves_of_a_turn_lead_to_its_state.Goals as goal
+use Rattle.fk_model.proofs.laws.the_moves_of_a_turn_lead_to_its_state.Goals as goal
 
 pub returns-clause-come : goal.returns-clause-come
 returns-clause-come c = turn_comes

@@ -1,0 +1,159 @@
+-- What a PUSH, a PUSHB, a FETCH and an ACK ask for is in range, where what serde_json decodes or writes of it
+-- is a text.
+use Rattle.std.proofs.Common.{◌≡◌, inl, inr, ℕ, ◌+◌, ◌-◌, ◌<◌, ◌≤◌, Bool, true, false, List, [], ◌∷◌, ◌++◌, length, take, filter, slice_range, codes, if◌then◌else◌, Option, None, Some, nat_lt, refl, sym, subst, arith}
+use Rattle.std.specs.Prelude.{All}
+use Rattle.std.specs.List.{slice_split}
+use Rattle.std.specs.Option.{option_map_or}
+use Rattle.std.proofs.lemmas.Bool.{ltb-false}
+use Rattle.std.proofs.lemmas.List.{length-take}
+use Rattle.std.proofs.lemmas.List.Elements.{All-append, All-cons, All-filter, All-from_recursion, All-head, All-nil, All-tail, All-take, All-weaker}
+use Rattle.std.proofs.lemmas.List.Splits.{length-slice_split}
+use Rattle.std.proofs.lemmas.List.Sums.{count_by-le-length, length-filter}
+use Rattle.serde_json.specs.Data.{Members}
+use Rattle.fk_json.specs.declared.span.Span.{Span}
+use Rattle.fk_json.specs.Json.{most_levels}
+use Rattle.fk_frame.specs.declared.line_reader.Line.{Line}
+use Rattle.fk_frame.specs.declared.line_reader.Line.TheVariants.{Whole, Need, TooLong}
+use Rattle.fk_frame.specs.Bytes.{is_line_feed}
+use Rattle.fk_frame.specs.Lines.{is_too_long, line_of, lines_in, lines_of, longest_line, without_return}
+use Rattle.fk_job.specs.declared.job.Job.{Job}
+use Rattle.fk_job.specs.Spellings.{AreBytes, HasJobSpelling, IsText, text_limit}
+use Rattle.fk_job.proofs.JobSpelled.{job_spelled}
+use Rattle.fk_model.specs.declared.ask.Ask.{Ask}
+use Rattle.fk_model.specs.declared.ask.Ask.TheVariants.{Push, PushBatch, Fetch, Ack}
+use Rattle.fk_model.specs.declared.item.Item.{Item}
+use Rattle.fk_model.specs.declared.item.Item.TheVariants.{Own, Asks}
+use Rattle.fk_model.specs.declared.item.Phase.{Phase}
+use Rattle.fk_model.specs.declared.item.Phase.TheVariants.{Greeted, Accepted, Over}
+use Rattle.fk_model.specs.Commands.{arguments, is_plain_hello, is_space}
+use Rattle.fk_model.specs.Payloads.{AreElements, Element, IsAcknowledged, IsBatch, IsFetched, IsPushed, accepted, acknowledged, barred, is_some_text, jobs_among, object_read, or_default, queue_names, refused, string_among, taken}
+use Rattle.fk_model.specs.Range.{AreJobs, HasJsonTexts, IsInRange}
+use Rattle.fk_model.specs.Script.{AreGiven, AreItemsFrom, AreItemsOf, Command, IsGiven, IsScript, ack, batch, command_of, end, fetch, handshake_items, hello, not_served, phase_after, push, unknown}
+use Rattle.fk_model.specs.Out.{asks_of}
+use Rattle.fk_model.specs.Spellings.{AreTexts}
+use Rattle.fk_model.proofs.Outs.{asks_of-append}
+use Rattle.fk_model.proofs.Parted.{IsUpTo, behind_up_to, elements_count, range_up_to, split_up_to}
+
+-- an ask is in range, if what serde_json gives of it is a text
+abbrev pub Fits : Ask → Type 0
+Fits ask = HasJsonTexts ask → IsInRange ask
+
+abbrev pub AllFit : List Item → Type 0
+AllFit items = All Fits (asks_of items)
+
+-- a line: bytes, no more than a line may have
+abbrev pub IsLine : List ℕ → Type 0
+IsLine line = IsUpTo longest_line line
+
+as_text : (text : List ℕ) → IsLine text → IsText text
+as_text text is = record { bytes = is.bytes; short = omega (arith, is.short) }
+
+-- ---- items
+
+pub none_fit : AllFit []
+none_fit = All-nil Fits
+
+pub as_it : (item other : Item) → item ≡ other → AllFit (other ∷ []) → AllFit (item ∷ [])
+as_it item other same fits = subst (λ one. AllFit (one ∷ [])) (sym same) fits
+
+one_fits : (ask : Ask) → Fits ask → AllFit (Asks ask ∷ [])
+one_fits ask fits = All-cons Fits ask [] fits (All-nil Fits)
+
+-- ---- a PUSH
+
+pub push_fits : (text : List ℕ) (item : Item) → IsLine text → IsPushed text item → AllFit (item ∷ [])
+push_fits text item is (inl (job, read, same)) =
+    as_it item (Asks (Push job)) same (one_fits (Push job) (λ told. job_spelled text job (as_text text is) read))
+push_fits text item is (inr (fault, has, same)) = as_it item _ same none_fit
+
+-- ---- a PUSHB
+
+jobs_spelled : (text : List ℕ) (spans : List Span) (elements : List Element) → IsLine text
+    → AreElements text spans elements → All HasJobSpelling (jobs_among elements)
+jobs_spelled text [] [] is are = All-nil HasJobSpelling
+jobs_spelled text [] (element ∷ elements) is are = absurd are
+jobs_spelled text (span ∷ spans) [] is are = absurd are
+jobs_spelled text (span ∷ spans) (taken job ∷ elements) is (read, are) =
+    let piece = slice_range text span.from span.to in
+    All-cons HasJobSpelling job (jobs_among elements)
+    (job_spelled piece job (as_text piece (range_up_to longest_line span.from span.to text is)) read)
+    (jobs_spelled text spans elements is are)
+jobs_spelled text (span ∷ spans) (barred key reason ∷ elements) is (read, are) =
+    jobs_spelled text spans elements is are
+
+jobs_fewer : (text : List ℕ) (spans : List Span) (elements : List Element) → AreElements text spans elements
+    → length (jobs_among elements) ≤ length spans
+jobs_fewer text [] [] are = omega arith
+jobs_fewer text [] (element ∷ elements) are = absurd are
+jobs_fewer text (span ∷ spans) [] are = absurd are
+jobs_fewer text (span ∷ spans) (taken job ∷ elements) (read, are) =
+    omega (arith, jobs_fewer text spans elements are)
+jobs_fewer text (span ∷ spans) (barred key reason ∷ elements) (read, are) =
+    omega (arith, jobs_fewer text spans elements are)
+
+pub batch_fits : (text : List ℕ) (item : Item) → IsLine text → IsBatch text item → AllFit (item ∷ [])
+batch_fits text item is (inl (spans, elements, array, are, same)) =
+    let jobs : AreJobs (jobs_among elements) = record {
+      each = jobs_spelled text spans elements is are;
+      short = omega (
+        arith,
+        jobs_fewer text spans elements are,
+        elements_count most_levels text spans array,
+        is.short,
+      );
+    } in
+    as_it item _ same (one_fits (PushBatch (jobs_among elements) _) (λ told. (jobs, told)))
+batch_fits text item is (inr (inl (at, fails, same))) = as_it item _ same none_fit
+batch_fits text item is (inr (inr (at, deep, same))) = as_it item _ same none_fit
+
+-- ---- a FETCH
+
+default_texts : AreTexts (codes "default" ∷ [])
+default_texts = record {
+  each = All-cons IsText (codes "default") []
+      (record {
+        bytes = All-from_recursion (λ b. b < 256) (codes "default")
+            (omega arith, (omega arith, (omega arith, (omega arith, (omega arith, (omega arith, (omega arith, tt)))))));
+        short = omega arith;
+      }) (All-nil IsText);
+  short = omega arith;
+}
+
+or_default_texts : (names : List (List ℕ)) → AreTexts names → AreTexts (or_default names)
+or_default_texts [] are = default_texts
+or_default_texts (name ∷ names) are = are
+
+names_texts : (text : List ℕ) → IsLine text → AreTexts (queue_names text)
+names_texts text is =
+    let parts = slice_split is_space text in
+    or_default_texts (filter is_some_text parts)
+    (record {
+      each = All-filter is_some_text IsText parts
+          (All-weaker (IsUpTo longest_line) IsText as_text parts (split_up_to is_space longest_line text is));
+      short = omega (
+        arith,
+        length-filter is_some_text parts,
+        count_by-le-length is_some_text parts,
+        length-slice_split is_space text,
+        count_by-le-length is_space text,
+        is.short,
+      );
+    })
+
+pub fetch_fits : (text : List ℕ) (item : Item) → IsLine text → IsFetched text item → AllFit (item ∷ [])
+fetch_fits text item is same =
+    as_it item _ same
+    (one_fits (Fetch [] (queue_names text))
+    (λ told. (record { bytes = All-nil (λ b. b < 256); short = omega arith }, names_texts text is)))
+
+-- ---- an ACK
+
+jid_fits : (jid : Option (List ℕ))
+    → AllFit (option_map_or (λ jid. Asks (Ack jid)) jid (refused (codes "No jid")) ∷ [])
+jid_fits None = none_fit
+jid_fits (Some jid) = one_fits (Ack jid) (λ is. is)
+
+pub ack_fits : (found : Option Members)
+    → AllFit (option_map_or acknowledged found (refused (codes "Bad JSON")) ∷ [])
+ack_fits None = none_fit
+ack_fits (Some members) = jid_fits (string_among (codes "jid") members)
