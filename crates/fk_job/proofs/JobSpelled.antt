@@ -1,20 +1,17 @@
 -- A file can hold the job of a text of fewer than 2^32 bytes.
-use Rattle.std.proofs.Common.{◌≡◌, ℕ, ◌<◌, ◌≤◌, ℤ, pos, negsuc, neg_ℤ, ◌≤ℤ◌, Bool, true, false, if◌then◌else◌, nat_lt, List, [], ◌∷◌, ◌++◌, length, map, filter, find, reverse, Option, None, Some, MatchOption, IfSome, codes, ap, sym, subst, arith}
+use Rattle.std.proofs.Common.{◌≡◌, ℕ, ◌<◌, ◌≤◌, ℤ, pos, negsuc, neg_ℤ, ◌≤ℤ◌, List, [], ◌∷◌, length, map, filter, Option, None, Some, MatchOption, IfSome, codes, sym, subst, arith}
 use Rattle.std.specs.Prelude.{All, FitsSigned}
 use Rattle.std.specs.Int.{w64}
-use Rattle.std.specs.List.{join_with_byte}
-use Rattle.std.specs.Option.{option_map}
 use Rattle.std.specs.Str.{byte}
 use Rattle.std.proofs.lemmas.Bool.Decides.{nat_tests}
 use Rattle.std.proofs.lemmas.Int.{ints}
-use Rattle.std.proofs.lemmas.List.Elements.{All-append, All-cons, All-map, All-nil}
+use Rattle.std.proofs.lemmas.List.Elements.{All-append, All-cons, All-nil}
 use Rattle.fk_json.specs.declared.member.Member.{Member}
 use Rattle.fk_json.specs.Json.{most_levels}
 use Rattle.fk_json.specs.String.{IsString}
-use Rattle.fk_time.specs.Moments.{greatest}
 use Rattle.fk_time.specs.Reading.{moment_of, milliseconds}
 use Rattle.fk_job.specs.declared.job.Job.{Job}
-use Rattle.fk_job.specs.Fields.{HasString, IsMomentOf, IsQueueNamed, default_reserve, default_retry, least_reserve, most_reserve, reserve_seconds, retries}
+use Rattle.fk_job.specs.Fields.{IsMomentOf, IsQueueNamed, default_reserve, default_retry, least_reserve, most_reserve, reserve_seconds, retries}
 use Rattle.fk_job.specs.JobText.{IsJob, IsJobOf, IsWithin}
 use Rattle.fk_job.specs.Members.{body_of, counting_members, given_value, is_handed_on, sent_member, sent_value, value_of}
 use Rattle.fk_job.specs.Spellings.{AreBytes, HasJobSpelling, IsMoment, IsQueueName, IsText}

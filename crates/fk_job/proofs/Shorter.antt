@@ -1,12 +1,12 @@
 -- The body of a job is no longer than the job's text.
-use Rattle.std.proofs.Common.{◌≡◌, inl, inr, ℕ, zero, suc, ◌+◌, ◌-◌, ◌≤◌, Bool, true, false, if◌then◌else◌, List, [], ◌∷◌, ◌++◌, length, map, take, drop, filter, slice_range, codes, ap, arith}
+use Rattle.std.proofs.Common.{inl, inr, ℕ, zero, suc, ◌+◌, ◌-◌, ◌≤◌, Bool, true, false, if◌then◌else◌, List, [], ◌∷◌, ◌++◌, length, map, drop, filter, slice_range, codes, ap, arith}
 use Rattle.std.specs.Prelude.{sum_by}
 use Rattle.std.specs.List.{join_with_byte, list_any}
 use Rattle.std.specs.Str.{byte}
 use Rattle.std.proofs.lemmas.List.{length-append, length-take}
 use Rattle.std.proofs.lemmas.List.Sums.{sum_by-cons}
 use Rattle.fk_json.specs.declared.member.Member.{Member}
-use Rattle.fk_json.specs.Json.{AreItems, AreJoined, IsMember, IsObjectText, IsValue, value_span}
+use Rattle.fk_json.specs.Json.{AreItems, AreJoined, IsMember, IsObjectText, IsValue}
 use Rattle.fk_job.specs.Members.{body_of, counting_members, is_handed_on, is_named, sent_member}
 
 -- ---- the room that members take in a text

@@ -1,38 +1,28 @@
 -- What a PUSH, a PUSHB, a FETCH and an ACK ask for is in range, where what serde_json decodes or writes of it
 -- is a text.
-use Rattle.std.proofs.Common.{◌≡◌, inl, inr, ℕ, ◌+◌, ◌-◌, ◌<◌, ◌≤◌, Bool, true, false, List, [], ◌∷◌, ◌++◌, length, take, filter, slice_range, codes, if◌then◌else◌, Option, None, Some, nat_lt, refl, sym, subst, arith}
+use Rattle.std.proofs.Common.{◌≡◌, inl, inr, ℕ, ◌<◌, ◌≤◌, List, [], ◌∷◌, length, filter, slice_range, codes, Option, None, Some, sym, subst, arith}
 use Rattle.std.specs.Prelude.{All}
 use Rattle.std.specs.List.{slice_split}
 use Rattle.std.specs.Option.{option_map_or}
-use Rattle.std.proofs.lemmas.Bool.{ltb-false}
-use Rattle.std.proofs.lemmas.List.{length-take}
-use Rattle.std.proofs.lemmas.List.Elements.{All-append, All-cons, All-filter, All-from_recursion, All-head, All-nil, All-tail, All-take, All-weaker}
+use Rattle.std.proofs.lemmas.List.Elements.{All-cons, All-filter, All-from_recursion, All-nil, All-weaker}
 use Rattle.std.proofs.lemmas.List.Splits.{length-slice_split}
 use Rattle.std.proofs.lemmas.List.Sums.{count_by-le-length, length-filter}
 use Rattle.serde_json.specs.Data.{Members}
 use Rattle.fk_json.specs.declared.span.Span.{Span}
 use Rattle.fk_json.specs.Json.{most_levels}
-use Rattle.fk_frame.specs.declared.line_reader.Line.{Line}
-use Rattle.fk_frame.specs.declared.line_reader.Line.TheVariants.{Whole, Need, TooLong}
-use Rattle.fk_frame.specs.Bytes.{is_line_feed}
-use Rattle.fk_frame.specs.Lines.{is_too_long, line_of, lines_in, lines_of, longest_line, without_return}
-use Rattle.fk_job.specs.declared.job.Job.{Job}
-use Rattle.fk_job.specs.Spellings.{AreBytes, HasJobSpelling, IsText, text_limit}
+use Rattle.fk_frame.specs.Lines.{longest_line}
+use Rattle.fk_job.specs.Spellings.{HasJobSpelling, IsText}
 use Rattle.fk_job.proofs.JobSpelled.{job_spelled}
 use Rattle.fk_model.specs.declared.ask.Ask.{Ask}
 use Rattle.fk_model.specs.declared.ask.Ask.TheVariants.{Push, PushBatch, Fetch, Ack}
 use Rattle.fk_model.specs.declared.item.Item.{Item}
-use Rattle.fk_model.specs.declared.item.Item.TheVariants.{Own, Asks}
-use Rattle.fk_model.specs.declared.item.Phase.{Phase}
-use Rattle.fk_model.specs.declared.item.Phase.TheVariants.{Greeted, Accepted, Over}
-use Rattle.fk_model.specs.Commands.{arguments, is_plain_hello, is_space}
-use Rattle.fk_model.specs.Payloads.{AreElements, Element, IsAcknowledged, IsBatch, IsFetched, IsPushed, accepted, acknowledged, barred, is_some_text, jobs_among, object_read, or_default, queue_names, refused, string_among, taken}
+use Rattle.fk_model.specs.declared.item.Item.TheVariants.{Asks}
+use Rattle.fk_model.specs.Commands.{is_space}
+use Rattle.fk_model.specs.Payloads.{AreElements, Element, IsBatch, IsFetched, IsPushed, acknowledged, barred, is_some_text, jobs_among, or_default, queue_names, refused, string_among, taken}
 use Rattle.fk_model.specs.Range.{AreJobs, HasJsonTexts, IsInRange}
-use Rattle.fk_model.specs.Script.{AreGiven, AreItemsFrom, AreItemsOf, Command, IsGiven, IsScript, ack, batch, command_of, end, fetch, handshake_items, hello, not_served, phase_after, push, unknown}
 use Rattle.fk_model.specs.Out.{asks_of}
 use Rattle.fk_model.specs.Spellings.{AreTexts}
-use Rattle.fk_model.proofs.Outs.{asks_of-append}
-use Rattle.fk_model.proofs.Parted.{IsUpTo, behind_up_to, elements_count, range_up_to, split_up_to}
+use Rattle.fk_model.proofs.Parted.{IsUpTo, elements_count, range_up_to, split_up_to}
 
 -- an ask is in range, if what serde_json gives of it is a text
 abbrev pub Fits : Ask → Type 0

@@ -1,39 +1,30 @@
 -- The asks of a line and of a script are in range, where what serde_json decodes or writes of them is a
 -- text.
-use Rattle.std.proofs.Common.{◌≡◌, inl, inr, ℕ, ◌+◌, ◌-◌, ◌<◌, ◌≤◌, Bool, true, false, List, [], ◌∷◌, ◌++◌, length, take, filter, slice_range, codes, if◌then◌else◌, Option, None, Some, nat_lt, refl, sym, subst, arith}
+use Rattle.std.proofs.Common.{◌≡◌, ℕ, ◌-◌, ◌<◌, ◌≤◌, Bool, true, false, List, [], ◌∷◌, ◌++◌, length, take, if◌then◌else◌, refl, ap, sym, subst, arith}
 use Rattle.std.specs.Prelude.{All}
 use Rattle.std.specs.List.{slice_split}
-use Rattle.std.specs.Option.{option_map_or}
 use Rattle.std.proofs.lemmas.Bool.{ltb-false}
 use Rattle.std.proofs.lemmas.List.{length-take}
-use Rattle.std.proofs.lemmas.List.Elements.{All-append, All-cons, All-filter, All-from_recursion, All-head, All-nil, All-tail, All-take, All-weaker}
-use Rattle.std.proofs.lemmas.List.Splits.{length-slice_split}
-use Rattle.std.proofs.lemmas.List.Sums.{count_by-le-length, length-filter}
-use Rattle.serde_json.specs.Data.{Members}
-use Rattle.fk_json.specs.declared.span.Span.{Span}
-use Rattle.fk_json.specs.Json.{most_levels}
+use Rattle.std.proofs.lemmas.List.Elements.{All-append, All-cons, All-head, All-nil, All-tail, All-take, All-weaker}
 use Rattle.fk_frame.specs.declared.line_reader.Line.{Line}
 use Rattle.fk_frame.specs.declared.line_reader.Line.TheVariants.{Whole, Need, TooLong}
 use Rattle.fk_frame.specs.Bytes.{is_line_feed}
 use Rattle.fk_frame.specs.Lines.{is_too_long, line_of, lines_in, lines_of, longest_line, without_return}
-use Rattle.fk_job.specs.declared.job.Job.{Job}
-use Rattle.fk_job.specs.Spellings.{AreBytes, HasJobSpelling, IsText, text_limit}
-use Rattle.fk_job.proofs.JobSpelled.{job_spelled}
+use Rattle.fk_frame.specs.Reading.{IsFirstLine, front_of}
+use Rattle.fk_job.specs.Spellings.{AreBytes}
 use Rattle.fk_model.specs.declared.ask.Ask.{Ask}
-use Rattle.fk_model.specs.declared.ask.Ask.TheVariants.{Push, PushBatch, Fetch, Ack}
 use Rattle.fk_model.specs.declared.item.Item.{Item}
-use Rattle.fk_model.specs.declared.item.Item.TheVariants.{Own, Asks}
+use Rattle.fk_model.specs.declared.item.Item.TheVariants.{Asks}
 use Rattle.fk_model.specs.declared.item.Phase.{Phase}
 use Rattle.fk_model.specs.declared.item.Phase.TheVariants.{Greeted, Accepted, Over}
 use Rattle.fk_model.specs.Commands.{arguments, is_plain_hello, is_space}
-use Rattle.fk_model.specs.Payloads.{AreElements, Element, IsAcknowledged, IsBatch, IsFetched, IsPushed, accepted, acknowledged, barred, is_some_text, jobs_among, object_read, or_default, queue_names, refused, string_among, taken}
-use Rattle.fk_model.specs.Range.{AreJobs, HasJsonTexts, IsInRange}
+use Rattle.fk_model.specs.Payloads.{accepted, object_read}
+use Rattle.fk_model.specs.Range.{HasJsonTexts, IsInRange}
 use Rattle.fk_model.specs.Script.{AreGiven, AreItemsFrom, AreItemsOf, Command, IsGiven, IsScript, ack, batch, command_of, end, fetch, handshake_items, hello, not_served, phase_after, push, unknown}
 use Rattle.fk_model.specs.Out.{asks_of}
-use Rattle.fk_model.specs.Spellings.{AreTexts}
 use Rattle.fk_model.proofs.Outs.{asks_of-append}
 use Rattle.fk_model.proofs.AskRange.{AllFit, Fits, IsLine, ack_fits, as_it, batch_fits, fetch_fits, none_fit, push_fits}
-use Rattle.fk_model.proofs.Parted.{IsUpTo, behind_up_to, elements_count, range_up_to, split_up_to}
+use Rattle.fk_model.proofs.Parted.{IsUpTo, behind_up_to, split_up_to}
 
 -- ---- a line
 
@@ -105,19 +96,36 @@ line_in_range phase line ask are short given =
 
 -- ---- a script
 
-all_but_return : (line : List ℕ) (ends : Bool) → IsLine line
-    → IsLine (if ends then take (length line - 1) line else line)
-all_but_return line true is = record {
-  bytes = All-take (λ b. b < 256) (length line - 1) line is.bytes;
-  short = omega (arith, is.short, length-take (length line - 1) line);
+return_shorter : (line : List ℕ) (ends : Bool)
+    → length (if ends then take (length line - 1) line else line) ≤ length line
+return_shorter line true = omega (arith, length-take (length line - 1) line)
+return_shorter line false = omega arith
+
+return_bytes : (line : List ℕ) (ends : Bool) → AreBytes line
+    → AreBytes (if ends then take (length line - 1) line else line)
+return_bytes line true are = All-take (λ b. b < 256) (length line - 1) line are
+return_bytes line false are = are
+
+without_shorter : (part : List ℕ) → length (without_return part) ≤ length part
+without_shorter part = return_shorter part _
+
+-- the line of a part of a stream
+of_part : (part : List ℕ) → IsLine part → IsLine (without_return part)
+of_part part is = record {
+  bytes = return_bytes part _ is.bytes;
+  short = omega (arith, is.short, without_shorter part);
 }
-all_but_return line false is = is
+
+-- the first line of a stream is no longer than a line may be
+pub first_line_short : (stream line rest : List ℕ) → IsFirstLine stream line rest → length line ≤ longest_line
+first_line_short stream line rest is =
+    omega (arith, is.fits, ap length is.front, without_shorter (front_of stream))
 
 part_line : (part : List ℕ) (long : Bool) → is_too_long part ≡ long → AreBytes part
     → IsLineOf (if long then TooLong else Whole (without_return part))
 part_line part true is are = tt
 part_line part false is are =
-    all_but_return part _
+    of_part part
     (record { bytes = are; short = omega (arith, ltb-false longest_line (length part) is) })
 
 last_line : (long : Bool) → All IsLineOf (if long then TooLong ∷ [] else [])

@@ -1,5 +1,5 @@
 -- The parts of a text that is cut, and the items between brackets: how many they are, and how long.
-use Rattle.std.proofs.Common.{◌≡◌, inl, inr, ℕ, zero, suc, ◌+◌, ◌-◌, ◌<◌, ◌≤◌, Bool, true, false, cond, List, [], ◌∷◌, ◌++◌, length, drop, slice_range, codes, ap, refl, arith}
+use Rattle.std.proofs.Common.{inl, inr, ℕ, zero, suc, ◌+◌, ◌-◌, ◌<◌, ◌≤◌, Bool, true, false, cond, List, [], ◌∷◌, ◌++◌, length, drop, slice_range, codes, ap, arith}
 use Rattle.std.specs.Prelude.{All}
 use Rattle.std.specs.List.{after_first, onto_first, position_or_len, slice_split}
 use Rattle.std.proofs.lemmas.List.{length-append, length-drop, length-take}
