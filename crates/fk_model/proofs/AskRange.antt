@@ -24,41 +24,41 @@ use Rattle.fk_model.specs.Out.{asks_of}
 use Rattle.fk_model.specs.Spellings.{AreTexts}
 use Rattle.fk_model.proofs.Parted.{IsUpTo, elements_count, range_up_to, split_up_to}
 
--- an ask is in range, if what serde_json gives of it is a text
-abbrev pub Fits : Ask → Type 0
-Fits ask = HasJsonTexts ask → IsInRange ask
+-- a turn may be made of the ask, if what serde_json gives of it is a text
+abbrev pub IsAskable : Ask → Type 0
+IsAskable ask = HasJsonTexts ask → IsInRange ask
 
-abbrev pub AllFit : List Item → Type 0
-AllFit items = All Fits (asks_of items)
+abbrev pub AreAskable : List Item → Type 0
+AreAskable items = All IsAskable (asks_of items)
 
--- a line: bytes, no more than a line may have
-abbrev pub IsLine : List ℕ → Type 0
-IsLine line = IsUpTo longest_line line
+-- bytes, no more than a line may have
+abbrev pub FitsLine : List ℕ → Type 0
+FitsLine line = IsUpTo longest_line line
 
-as_text : (text : List ℕ) → IsLine text → IsText text
+as_text : (text : List ℕ) → FitsLine text → IsText text
 as_text text is = record { bytes = is.bytes; short = omega (arith, is.short) }
 
 -- ---- items
 
-pub none_fit : AllFit []
-none_fit = All-nil Fits
+pub none_askable : AreAskable []
+none_askable = All-nil IsAskable
 
-pub as_it : (item other : Item) → item ≡ other → AllFit (other ∷ []) → AllFit (item ∷ [])
-as_it item other same fits = subst (λ one. AllFit (one ∷ [])) (sym same) fits
+pub as_it : (item other : Item) → item ≡ other → AreAskable (other ∷ []) → AreAskable (item ∷ [])
+as_it item other same fits = subst (λ one. AreAskable (one ∷ [])) (sym same) fits
 
-one_fits : (ask : Ask) → Fits ask → AllFit (Asks ask ∷ [])
-one_fits ask fits = All-cons Fits ask [] fits (All-nil Fits)
+one_askable : (ask : Ask) → IsAskable ask → AreAskable (Asks ask ∷ [])
+one_askable ask fits = All-cons IsAskable ask [] fits (All-nil IsAskable)
 
 -- ---- a PUSH
 
-pub push_fits : (text : List ℕ) (item : Item) → IsLine text → IsPushed text item → AllFit (item ∷ [])
-push_fits text item is (inl (job, read, same)) =
-    as_it item (Asks (Push job)) same (one_fits (Push job) (λ told. job_spelled text job (as_text text is) read))
-push_fits text item is (inr (fault, has, same)) = as_it item _ same none_fit
+pub push_askable : (text : List ℕ) (item : Item) → FitsLine text → IsPushed text item → AreAskable (item ∷ [])
+push_askable text item is (inl (job, read, same)) =
+    as_it item (Asks (Push job)) same (one_askable (Push job) (λ told. job_spelled text job (as_text text is) read))
+push_askable text item is (inr (fault, has, same)) = as_it item _ same none_askable
 
 -- ---- a PUSHB
 
-jobs_spelled : (text : List ℕ) (spans : List Span) (elements : List Element) → IsLine text
+jobs_spelled : (text : List ℕ) (spans : List Span) (elements : List Element) → FitsLine text
     → AreElements text spans elements → All HasJobSpelling (jobs_among elements)
 jobs_spelled text [] [] is are = All-nil HasJobSpelling
 jobs_spelled text [] (element ∷ elements) is are = absurd are
@@ -81,8 +81,8 @@ jobs_fewer text (span ∷ spans) (taken job ∷ elements) (read, are) =
 jobs_fewer text (span ∷ spans) (barred key reason ∷ elements) (read, are) =
     omega (arith, jobs_fewer text spans elements are)
 
-pub batch_fits : (text : List ℕ) (item : Item) → IsLine text → IsBatch text item → AllFit (item ∷ [])
-batch_fits text item is (inl (spans, elements, array, are, same)) =
+pub batch_askable : (text : List ℕ) (item : Item) → FitsLine text → IsBatch text item → AreAskable (item ∷ [])
+batch_askable text item is (inl (spans, elements, array, are, same)) =
     let jobs : AreJobs (jobs_among elements) = record {
       each = jobs_spelled text spans elements is are;
       short = omega (
@@ -92,9 +92,9 @@ batch_fits text item is (inl (spans, elements, array, are, same)) =
         is.short,
       );
     } in
-    as_it item _ same (one_fits (PushBatch (jobs_among elements) _) (λ told. (jobs, told)))
-batch_fits text item is (inr (inl (at, fails, same))) = as_it item _ same none_fit
-batch_fits text item is (inr (inr (at, deep, same))) = as_it item _ same none_fit
+    as_it item _ same (one_askable (PushBatch (jobs_among elements) _) (λ told. (jobs, told)))
+batch_askable text item is (inr (inl (at, fails, same))) = as_it item _ same none_askable
+batch_askable text item is (inr (inr (at, deep, same))) = as_it item _ same none_askable
 
 -- ---- a FETCH
 
@@ -113,7 +113,7 @@ or_default_texts : (names : List (List ℕ)) → AreTexts names → AreTexts (or
 or_default_texts [] are = default_texts
 or_default_texts (name ∷ names) are = are
 
-names_texts : (text : List ℕ) → IsLine text → AreTexts (queue_names text)
+names_texts : (text : List ℕ) → FitsLine text → AreTexts (queue_names text)
 names_texts text is =
     let parts = slice_split is_space text in
     or_default_texts (filter is_some_text parts)
@@ -130,20 +130,20 @@ names_texts text is =
       );
     })
 
-pub fetch_fits : (text : List ℕ) (item : Item) → IsLine text → IsFetched text item → AllFit (item ∷ [])
-fetch_fits text item is same =
+pub fetch_askable : (text : List ℕ) (item : Item) → FitsLine text → IsFetched text item → AreAskable (item ∷ [])
+fetch_askable text item is same =
     as_it item _ same
-    (one_fits (Fetch [] (queue_names text))
+    (one_askable (Fetch [] (queue_names text))
     (λ told. (record { bytes = All-nil (λ b. b < 256); short = omega arith }, names_texts text is)))
 
 -- ---- an ACK
 
-jid_fits : (jid : Option (List ℕ))
-    → AllFit (option_map_or (λ jid. Asks (Ack jid)) jid (refused (codes "No jid")) ∷ [])
-jid_fits None = none_fit
-jid_fits (Some jid) = one_fits (Ack jid) (λ is. is)
+jid_askable : (jid : Option (List ℕ))
+    → AreAskable (option_map_or (λ jid. Asks (Ack jid)) jid (refused (codes "No jid")) ∷ [])
+jid_askable None = none_askable
+jid_askable (Some jid) = one_askable (Ack jid) (λ is. is)
 
-pub ack_fits : (found : Option Members)
-    → AllFit (option_map_or acknowledged found (refused (codes "Bad JSON")) ∷ [])
-ack_fits None = none_fit
-ack_fits (Some members) = jid_fits (string_among (codes "jid") members)
+pub ack_askable : (found : Option Members)
+    → AreAskable (option_map_or acknowledged found (refused (codes "Bad JSON")) ∷ [])
+ack_askable None = none_askable
+ack_askable (Some members) = jid_askable (string_among (codes "jid") members)

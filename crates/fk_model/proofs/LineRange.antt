@@ -23,76 +23,76 @@ use Rattle.fk_model.specs.Range.{HasJsonTexts, IsInRange}
 use Rattle.fk_model.specs.Script.{AreGiven, AreItemsFrom, AreItemsOf, Command, IsGiven, IsScript, ack, batch, command_of, end, fetch, handshake_items, hello, not_served, phase_after, push, unknown}
 use Rattle.fk_model.specs.Out.{asks_of}
 use Rattle.fk_model.proofs.Outs.{asks_of-append}
-use Rattle.fk_model.proofs.AskRange.{AllFit, Fits, IsLine, ack_fits, as_it, batch_fits, fetch_fits, none_fit, push_fits}
+use Rattle.fk_model.proofs.AskRange.{AreAskable, IsAskable, FitsLine, ack_askable, as_it, batch_askable, fetch_askable, none_askable, push_askable}
 use Rattle.fk_model.proofs.Parted.{IsUpTo, behind_up_to, split_up_to}
 
 -- ---- a line
 
-hello_fits : (plain : Bool) → AllFit ((if plain then accepted else not_served) ∷ [])
-hello_fits true = none_fit
-hello_fits false = none_fit
+hello_askable : (plain : Bool) → AreAskable ((if plain then accepted else not_served) ∷ [])
+hello_askable true = none_askable
+hello_askable false = none_askable
 
-before_hello : (line : List ℕ) (command : Command) → AllFit (handshake_items line command)
-before_hello line end = none_fit
-before_hello line hello = hello_fits (is_plain_hello line)
-before_hello line push = none_fit
-before_hello line batch = none_fit
-before_hello line fetch = none_fit
-before_hello line ack = none_fit
-before_hello line unknown = none_fit
+before_hello : (line : List ℕ) (command : Command) → AreAskable (handshake_items line command)
+before_hello line end = none_askable
+before_hello line hello = hello_askable (is_plain_hello line)
+before_hello line push = none_askable
+before_hello line batch = none_askable
+before_hello line fetch = none_askable
+before_hello line ack = none_askable
+before_hello line unknown = none_askable
 
-command_fits : (command : Command) (text : List ℕ) (item : Item) → IsLine text → IsGiven command text item
-    → AllFit (item ∷ [])
-command_fits end text item is given = absurd given
-command_fits hello text item is given = as_it item _ given none_fit
-command_fits push text item is given = push_fits text item is given
-command_fits batch text item is given = batch_fits text item is given
-command_fits fetch text item is given = fetch_fits text item is given
-command_fits ack text item is given = as_it item _ given (ack_fits (object_read text))
-command_fits unknown text item is given = as_it item _ given none_fit
+command_askable : (command : Command) (text : List ℕ) (item : Item) → FitsLine text → IsGiven command text item
+    → AreAskable (item ∷ [])
+command_askable end text item is given = absurd given
+command_askable hello text item is given = as_it item _ given none_askable
+command_askable push text item is given = push_askable text item is given
+command_askable batch text item is given = batch_askable text item is given
+command_askable fetch text item is given = fetch_askable text item is given
+command_askable ack text item is given = as_it item _ given (ack_askable (object_read text))
+command_askable unknown text item is given = as_it item _ given none_askable
 
 -- one thing is given for a line
 abbrev OneGiven : Command → List ℕ → List Item → Type 0
 OneGiven command text items = (item : Item) × IsGiven command text item × (items ≡ item ∷ [])
 
-given_fits : (command : Command) (text : List ℕ) (items : List Item) → IsLine text
-    → OneGiven command text items → AllFit items
-given_fits command text items is (item, given, whole) =
-    subst AllFit (sym whole) (command_fits command text item is given)
+given_askable : (command : Command) (text : List ℕ) (items : List Item) → FitsLine text
+    → OneGiven command text items → AreAskable items
+given_askable command text items is (item, given, whole) =
+    subst AreAskable (sym whole) (command_askable command text item is given)
 
-all_given_fit : (command : Command) (text : List ℕ) (items : List Item) → IsLine text
-    → AreGiven command text items → AllFit items
-all_given_fit end text items is none = subst AllFit (sym none) none_fit
-all_given_fit hello text items is given = given_fits hello text items is given
-all_given_fit push text items is given = given_fits push text items is given
-all_given_fit batch text items is given = given_fits batch text items is given
-all_given_fit fetch text items is given = given_fits fetch text items is given
-all_given_fit ack text items is given = given_fits ack text items is given
-all_given_fit unknown text items is given = given_fits unknown text items is given
+all_given_askable : (command : Command) (text : List ℕ) (items : List Item) → FitsLine text
+    → AreGiven command text items → AreAskable items
+all_given_askable end text items is none = subst AreAskable (sym none) none_askable
+all_given_askable hello text items is given = given_askable hello text items is given
+all_given_askable push text items is given = given_askable push text items is given
+all_given_askable batch text items is given = given_askable batch text items is given
+all_given_askable fetch text items is given = given_askable fetch text items is given
+all_given_askable ack text items is given = given_askable ack text items is given
+all_given_askable unknown text items is given = given_askable unknown text items is given
 
--- a line that is one
-abbrev IsLineOf : Line → Type 0
-IsLineOf (Whole line) = IsLine line
-IsLineOf Need = Unit {0}
-IsLineOf TooLong = Unit {0}
+-- a line whose bytes are no more than a line may have
+abbrev IsShort : Line → Type 0
+IsShort (Whole line) = FitsLine line
+IsShort Need = Unit {0}
+IsShort TooLong = Unit {0}
 
-items_fit : (phase : Phase) (line : Line) (items : List Item) → IsLineOf line → AreItemsOf phase line items
-    → AllFit items
+items_askable : (phase : Phase) (line : Line) (items : List Item) → IsShort line → AreItemsOf phase line items
+    → AreAskable items
 unfolding AreItemsOf
-items_fit Over line items is none = subst AllFit (sym none) none_fit
-items_fit Greeted TooLong items is same = subst AllFit (sym same) none_fit
-items_fit Accepted TooLong items is same = subst AllFit (sym same) none_fit
-items_fit Greeted Need items is none = subst AllFit (sym none) none_fit
-items_fit Accepted Need items is none = subst AllFit (sym none) none_fit
-items_fit Greeted (Whole line) items is same = subst AllFit (sym same) (before_hello line (command_of line))
-items_fit Accepted (Whole line) items is given =
-    all_given_fit (command_of line) (arguments line) items (behind_up_to is_space longest_line line is) given
+items_askable Over line items is none = subst AreAskable (sym none) none_askable
+items_askable Greeted TooLong items is same = subst AreAskable (sym same) none_askable
+items_askable Accepted TooLong items is same = subst AreAskable (sym same) none_askable
+items_askable Greeted Need items is none = subst AreAskable (sym none) none_askable
+items_askable Accepted Need items is none = subst AreAskable (sym none) none_askable
+items_askable Greeted (Whole line) items is same = subst AreAskable (sym same) (before_hello line (command_of line))
+items_askable Accepted (Whole line) items is given =
+    all_given_askable (command_of line) (arguments line) items (behind_up_to is_space longest_line line is) given
 
 pub line_in_range : (phase : Phase) (line : List ℕ) (ask : Ask) → AreBytes line → length line ≤ longest_line
     → AreItemsOf phase (Whole line) (Asks ask ∷ []) → HasJsonTexts ask → IsInRange ask
 line_in_range phase line ask are short given =
-    All-head Fits ask []
-    (items_fit phase (Whole line) (Asks ask ∷ []) (record { bytes = are; short = short }) given)
+    All-head IsAskable ask []
+    (items_askable phase (Whole line) (Asks ask ∷ []) (record { bytes = are; short = short }) given)
 
 -- ---- a script
 
@@ -110,7 +110,7 @@ without_shorter : (part : List ℕ) → length (without_return part) ≤ length 
 without_shorter part = return_shorter part _
 
 -- the line of a part of a stream
-of_part : (part : List ℕ) → IsLine part → IsLine (without_return part)
+of_part : (part : List ℕ) → FitsLine part → FitsLine (without_return part)
 of_part part is = record {
   bytes = return_bytes part _ is.bytes;
   short = omega (arith, is.short, without_shorter part);
@@ -122,38 +122,38 @@ first_line_short stream line rest is =
     omega (arith, is.fits, ap length is.front, without_shorter (front_of stream))
 
 part_line : (part : List ℕ) (long : Bool) → is_too_long part ≡ long → AreBytes part
-    → IsLineOf (if long then TooLong else Whole (without_return part))
+    → IsShort (if long then TooLong else Whole (without_return part))
 part_line part true is are = tt
 part_line part false is are =
     of_part part
     (record { bytes = are; short = omega (arith, ltb-false longest_line (length part) is) })
 
-last_line : (long : Bool) → All IsLineOf (if long then TooLong ∷ [] else [])
-last_line true = All-cons IsLineOf TooLong [] tt (All-nil IsLineOf)
-last_line false = All-nil IsLineOf
+last_line : (long : Bool) → All IsShort (if long then TooLong ∷ [] else [])
+last_line true = All-cons IsShort TooLong [] tt (All-nil IsShort)
+last_line false = All-nil IsShort
 
-lines_are : (parts : List (List ℕ)) → All AreBytes parts → All IsLineOf (lines_in parts)
-lines_are [] are = All-nil IsLineOf
+lines_are : (parts : List (List ℕ)) → All AreBytes parts → All IsShort (lines_in parts)
+lines_are [] are = All-nil IsShort
 lines_are (last ∷ []) are = last_line (is_too_long last)
 lines_are (part ∷ next ∷ parts) are =
-    All-cons IsLineOf (line_of part) (lines_in (next ∷ parts))
+    All-cons IsShort (line_of part) (lines_in (next ∷ parts))
     (part_line part (is_too_long part) refl (All-head AreBytes part (next ∷ parts) are))
     (lines_are (next ∷ parts) (All-tail AreBytes part (next ∷ parts) are))
 
-lines_fit : (phase : Phase) (lines : List Line) (items : List Item) → All IsLineOf lines
-    → AreItemsFrom phase lines items → AllFit items
-lines_fit phase [] items are none = subst AllFit (sym none) none_fit
-lines_fit phase (line ∷ lines) items are (first, others, is, given, whole) =
-    let both : All Fits (asks_of first ++ asks_of others) =
-    All-append Fits (asks_of first) (asks_of others)
-    (items_fit phase line first (All-head IsLineOf line lines are) is)
-    (lines_fit (phase_after phase line) lines others (All-tail IsLineOf line lines are) given) in
-    subst AllFit (sym whole) (subst (All Fits) (sym (asks_of-append first others)) both)
+lines_askable : (phase : Phase) (lines : List Line) (items : List Item) → All IsShort lines
+    → AreItemsFrom phase lines items → AreAskable items
+lines_askable phase [] items are none = subst AreAskable (sym none) none_askable
+lines_askable phase (line ∷ lines) items are (first, others, is, given, whole) =
+    let both : All IsAskable (asks_of first ++ asks_of others) =
+    All-append IsAskable (asks_of first) (asks_of others)
+    (items_askable phase line first (All-head IsShort line lines are) is)
+    (lines_askable (phase_after phase line) lines others (All-tail IsShort line lines are) given) in
+    subst AreAskable (sym whole) (subst (All IsAskable) (sym (asks_of-append first others)) both)
 
 pub script_in_range : (bytes : List ℕ) (items : List Item) → AreBytes bytes → IsScript bytes items
     → All (λ ask. HasJsonTexts ask → IsInRange ask) (asks_of items)
 script_in_range bytes items are given =
-    lines_fit Greeted (lines_of bytes) items
+    lines_askable Greeted (lines_of bytes) items
     (lines_are (slice_split is_line_feed bytes)
     (All-weaker (IsUpTo (length bytes)) AreBytes (λ part is. is.bytes) (slice_split is_line_feed bytes)
     (split_up_to is_line_feed (length bytes) bytes (record { bytes = are; short = omega arith }))))
