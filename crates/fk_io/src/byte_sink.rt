@@ -113,25 +113,3 @@ impl Sink for ByteSink {
         Ok(piece.len())
     }
 }
-
-#[cfg(test)]
-mod tests {
-    use super::*;
-    use std::test::Fail;
-
-    #[test]
-    fn a_listed_call_writes_nothing_and_the_next_one_goes_on(rt: HostRuntime) -> Result<(), Fail> {
-        let mut sink = ByteSink::new(rt.alloc(), &[1])?;
-        for (piece, want) in [
-            (b"ab".as_slice(), Ok(2)),
-            (b"cd".as_slice(), Err(Failed)),
-            (b"".as_slice(), Ok(0)),
-            (b"ef".as_slice(), Ok(2)),
-        ] {
-            assert_eq!(rt; sink.put(piece), want);
-        }
-        assert_eq!(rt; sink.bytes(), b"abef".as_slice());
-        assert_eq!(rt; sink.starved(), 0);
-        Ok(())
-    }
-}

@@ -142,28 +142,3 @@ impl Source for ByteSource {
         Ok(n)
     }
 }
-
-#[cfg(test)]
-mod tests {
-    use super::*;
-    use std::test::Fail;
-
-    #[test]
-    fn the_bytes_come_in_pieces_and_go_on_after_a_listed_call(rt: HostRuntime) -> Result<(), Fail> {
-        let mut source = ByteSource::new(rt.alloc(), b"abcdefgh", &[2, 0, 3], &[2])?;
-        let mut buffer = [0; 8];
-        let wanted = [
-            Ok(b"ab".as_slice()),
-            Ok(b"c".as_slice()),
-            Err(Failed),
-            Ok(b"def".as_slice()),
-            Ok(b"gh".as_slice()),
-            Ok(b"".as_slice()),
-        ];
-        for want in wanted {
-            let piece = source.take(&mut buffer).map(|n| &buffer[..n]);
-            assert_eq!(rt; piece, want);
-        }
-        Ok(())
-    }
-}

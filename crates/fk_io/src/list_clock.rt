@@ -44,20 +44,3 @@ impl Clock for ListClock {
         self.told.next()
     }
 }
-
-#[cfg(test)]
-mod tests {
-    use super::*;
-    use std::test::Fail;
-
-    #[test]
-    fn the_moments_come_in_order_and_the_last_one_stays(rt: HostRuntime) -> Result<(), Fail> {
-        let mut clock = ListClock::new(rt.alloc(), &[1_700_000_000_000, 5, 249_999_999_999_999])?;
-        assert_eq!(rt; clock.now(), 1_700_000_000_000);
-        assert_eq!(rt; clock.now(), 5);
-        for _ in 0..2 {
-            assert_eq!(rt; clock.now(), 249_999_999_999_999);
-        }
-        Ok(())
-    }
-}

@@ -38,18 +38,3 @@ impl Dice for ListDice {
         self.told.next()
     }
 }
-
-#[cfg(test)]
-mod tests {
-    use super::*;
-    use std::test::Fail;
-
-    #[test]
-    fn the_words_come_in_order_and_the_last_one_stays(rt: HostRuntime) -> Result<(), Fail> {
-        let mut dice = ListDice::new(rt.alloc(), &[7, 18_446_744_073_709_551_615])?;
-        for word in [7, 18_446_744_073_709_551_615, 18_446_744_073_709_551_615] {
-            assert_eq!(rt; dice.roll(), word);
-        }
-        Ok(())
-    }
-}

@@ -97,39 +97,3 @@ impl Jobs {
         self.jobs.clear();
     }
 }
-
-#[cfg(test)]
-mod tests {
-    use super::*;
-    use fk_json::Text;
-    use std::test::Fail;
-
-    /// A job of this jid, with the defaults.
-    fn job(alloc: Global, jid: &'static [u8]) -> Job {
-        Job {
-            jid: Text::fixed(alloc, jid),
-            jobtype: Text::fixed(alloc, b"Mail"),
-            queue: Text::fixed(alloc, b"default"),
-            retry: 25,
-            reserve_for: 1800,
-            at: None,
-            has_created: false,
-            body: Text::fixed(alloc, b"\"args\":[]"),
-        }
-    }
-
-    #[test]
-    fn jobs_stand_in_order_and_are_taken_out(rt: HostRuntime) -> Result<(), Fail> {
-        let mut jobs = Jobs::new(rt.alloc());
-        jobs.reserve(2)?;
-        jobs.push(job(rt.alloc(), b"abcdefgh"))?;
-        jobs.push(job(rt.alloc(), b"ijklmnop").copied()?)?;
-        assert_eq!(rt; jobs.len(), 2);
-        let second = jobs.get(1).map(|job| (job.jid.bytes(), job.retry));
-        assert_eq!(rt; second, Some((b"ijklmnop".as_slice(), 25)));
-        assert_eq!(rt; jobs.get(2).is_none(), true);
-        jobs.clear();
-        assert_eq!(rt; jobs.is_empty(), true);
-        Ok(())
-    }
-}

@@ -5,16 +5,12 @@ mod body;
 mod counting;
 mod failure;
 mod fault;
-#[cfg(test)]
-mod fault_tests;
 mod fields;
 mod job;
 mod jobs;
 pub mod laws;
 mod named;
 mod reading;
-#[cfg(test)]
-mod reading_tests;
 mod stamp;
 mod values;
 mod writing;

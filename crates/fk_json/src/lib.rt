@@ -12,16 +12,10 @@ mod number_mode;
 mod pairs;
 mod piece;
 mod scan;
-#[cfg(test)]
-mod scan_part_tests;
-#[cfg(test)]
-mod scan_tests;
 mod span;
 mod standing;
 mod string;
 mod string_mode;
-#[cfg(test)]
-mod tests;
 mod text;
 mod texts;
 mod token;

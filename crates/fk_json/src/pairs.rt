@@ -96,20 +96,3 @@ impl Pairs {
         self.pairs.clear();
     }
 }
-
-#[cfg(test)]
-mod tests {
-    use super::*;
-    use std::test::Fail;
-
-    #[test]
-    fn pairs_are_added_all_at_once(rt: HostRuntime) -> Result<(), Fail> {
-        let mut pairs = Pairs::new(rt.alloc());
-        pairs.reserve(3)?;
-        pairs.push((1, 2))?;
-        pairs.extend(&[(3, 4), (5, 6)])?;
-        assert_eq!(rt; pairs.len(), 3);
-        assert_eq!(rt; pairs.get(2), Some(&(5, 6)));
-        Ok(())
-    }
-}

@@ -83,31 +83,3 @@ impl Texts {
         Ok(copy)
     }
 }
-
-#[cfg(test)]
-mod tests {
-    use super::*;
-    use std::test::Fail;
-
-    #[test]
-    fn texts_are_kept_in_the_order_of_the_pushes(rt: HostRuntime) -> Result<(), Fail> {
-        let mut texts = Texts::new(rt.alloc());
-        assert!(rt; texts.is_empty());
-        texts.push(Text::fixed(rt.alloc(), b"a"))?;
-        texts.push(Text::copy(rt.alloc(), b"bc")?)?;
-        let copy = texts.copied()?;
-        for list in [&texts, &copy] {
-            assert_eq!(rt; list.len(), 2);
-            assert_eq!(rt; list.get(0).map(|text| text.bytes()), Some(b"a".as_slice()));
-            assert_eq!(rt;
-                list.get(1).map(|text| text.bytes()),
-                Some(b"bc".as_slice())
-            );
-            assert!(rt; list.get(2).is_none());
-        }
-        texts.clear();
-        assert!(rt; texts.is_empty());
-        assert_eq!(rt; copy.len(), 2);
-        Ok(())
-    }
-}

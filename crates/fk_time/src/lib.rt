@@ -11,6 +11,3 @@ mod writing;
 pub use bad_time::BadTime;
 pub use reading::read_moment;
 pub use writing::{GREATEST, write_moment};
-
-#[cfg(test)]
-mod tests;
