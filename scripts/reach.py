@@ -1,0 +1,245 @@
+"""Which functions of the libraries the programs reach, by the names in their sources. A method is looked for
+at the type of what stands before its dot, where that can be told from the line, the signature or a struct;
+where it can't, every method of the name counts as reached. So what is told as not reached may be relied on
+more than what isn't told."""
+import re
+
+import sources
+
+
+class Program:
+    """All functions, and the structs by whose fields a receiver's type is found."""
+
+    def __init__(self, with_tests):
+        self.below = sources.crates()
+        found = [f for crate in self.below for f in sources.functions(crate)]
+        self.functions = [f for f in found if with_tests or not f.is_test]
+        self.methods, self.free = {}, {}
+        for f in self.functions:
+            table = self.methods if f.owner else self.free
+            table.setdefault(f.name, []).append(f)
+        self.owners = {f.owner for f in self.functions if f.owner}
+        self.traits = {f.trait for f in self.functions if f.trait and f.trait == f.owner}
+        self.fields, self.imports = {}, {}
+        for crate in self.below:
+            for file in sources.source_files(crate):
+                self.read_file(crate, file)
+
+    def read_file(self, crate, file):
+        text = without_notes(sources.read(file))
+        for name, fields in re.findall(r"\b(?:struct|enum) (\w+)[^;{(]*\{(.*?)^\}", text, re.M | re.S):
+            found = re.findall(r"(\w+): ([^,]+),", fields) + re.findall(r"(\w+)\(([^)]*)\)", fields)
+            self.fields.setdefault(name, {}).update(found)
+        imports = self.imports.setdefault(file, {})
+        for root, names in re.findall(r"^\s*use (\w+)::([^;]*);", text, re.M):
+            for name in re.findall(r"\w+", names):
+                imports[name] = crate if root in ("crate", "super", "self") else root
+
+    def named(self, function, name):
+        """The free functions that a name may mean where this function stands."""
+        found = self.free.get(name, [])
+        here = [f for f in found if f.file == function.file]
+        crate = self.imports[function.file].get(name)
+        return here or [f for f in found if f.crate == crate]
+
+    def methods_of(self, owners, name):
+        return [f for f in self.methods.get(name, []) if f.owner in owners]
+
+    def visible(self, function, name):
+        """The methods of a name, of the crates that this function's crate stands on."""
+        crates = {function.crate, *self.below[function.crate]}
+        return [f for f in self.methods.get(name, []) if f.crate in crates]
+
+
+def without_notes(text):
+    """The text without comments and without what stands in strings."""
+    text = re.sub(r'b?"(?:\\.|[^"\\])*"', '""', text)
+    text = re.sub(r"b?'(?:\\.|[^'\\])'", "0", text)
+    return re.sub(r"//[^\n]*", "", text)
+
+
+class Body:
+    """One function's body, and what its names may stand for: sets of names of types."""
+
+    def __init__(self, program, function):
+        self.program, self.function = program, function
+        self.text = without_notes("\n".join(function.body or []))
+        self.signature = without_notes(" ".join(function.signature))
+        self.bounds = dict(re.findall(r"\b([A-Z]\w*): ([A-Z]\w*)", self.signature))
+        self.parameters = {
+            name: self.types_in(kind)
+            for name, kind in re.findall(r"\b([a-z_]\w*): ((?:[^,<>]|<[^()]*?>)+)", self.signature)
+        }
+
+    def types_in(self, text):
+        """The types that a type is made of."""
+        names = {self.bounds.get(word, word) for word in re.findall(r"\b[A-Za-z]\w*", text)}
+        return {self.function.owner if name == "Self" else name for name in names}
+
+    def calls(self):
+        """The functions that the body may call."""
+        found = set()
+        for owner, name in re.findall(r"\b([A-Z]\w*)(?:::<[^>]*>)?::([a-z_]\w*)", self.text):
+            owner = self.function.owner if owner == "Self" else self.bounds.get(owner, owner)
+            found |= set(self.program.methods_of({owner}, name))
+        for name in re.findall(r"(?<![\w.])(?:\.\.)?([a-z_]\w*)\b(?!\s*:[^:])", self.text):
+            found |= set(self.program.named(self.function, name))
+        for match in re.finditer(r"\.\s*([a-z_]\w*)(?:::<[^>]*>)?\(", self.text):
+            kinds = self.kinds_before(match.start())
+            if kinds:
+                found |= set(self.program.methods_of(kinds, match.group(1)))
+            else:
+                found |= set(self.program.visible(self.function, match.group(1)))
+        return found
+
+    def kinds_before(self, end, names_until=None):
+        """The types that what stands before a dot may have, by names that were bound until a place. Nothing
+        is known where there is none."""
+        steps, at = [], end
+        while True:
+            at = len(self.text[:at].rstrip())
+            if self.text[at - 1 : at] == "?":
+                at -= 1
+                continue
+            if self.text[at - 1 : at] in (")", "]"):
+                opening = self.opening(at - 1)
+                is_call = self.text[at - 1] == ")"
+                word = re.search(r"([\w:]*\w)?(?:::<[^>]*>)?$", self.text[:opening])
+                at = word.start() if is_call and word.group(1) else opening
+                steps.append((word.group(1) if is_call else None, is_call))
+                if not is_call:
+                    continue
+            else:
+                word = re.search(r"(\w+|\"\")$", self.text[:at])
+                if not word:
+                    return set()
+                at = word.start()
+                steps.append((word.group(1), False))
+            before = self.text[:at].rstrip()
+            if not before.endswith(".") or before.endswith(".."):
+                break
+            at = len(before) - 1
+        return self.kinds_of(list(reversed(steps)), at if names_until is None else names_until)
+
+    def opening(self, closing):
+        """The place of the bracket that a closing one answers."""
+        depth = 0
+        for at in range(closing, -1, -1):
+            depth += (self.text[at] in ")]") - (self.text[at] in "([")
+            if depth == 0:
+                return at
+        return 0
+
+    def kinds_of(self, steps, at):
+        (root, is_call), rest = steps[0], steps[1:]
+        if root is None:
+            return set()
+        if is_call:
+            owner, _, name = root.rpartition("::")
+            owner = self.function.owner if owner == "Self" else owner
+            called = self.program.methods_of({owner}, name) or self.program.named(self.function, name)
+            kinds = self.results_of(called) or ({owner} if owner else set())
+        elif root == '""' or root[0].isdigit():
+            kinds = {"str"}
+        else:
+            kinds = {self.function.owner} if root == "self" else self.kinds_of_name(root, at)
+        for name, is_call in rest:
+            if name is None:
+                continue
+            if is_call:
+                called = self.program.methods_of(kinds, name)
+                kinds = self.results_of(called) if called else kinds
+            else:
+                kinds = set().union(*(self.types_in(self.program.fields.get(k, {}).get(name, "")) for k in kinds))
+        return kinds
+
+    def results_of(self, functions):
+        kinds = set()
+        for function in functions:
+            result = " ".join(function.signature).partition("->")[2]
+            kinds |= self.types_in(result.replace("Self", function.owner or "Self"))
+        return kinds
+
+    def kinds_of_name(self, name, at):
+        """What a local name may be: by the last `let`, `match`, `for` or closure before it that has it."""
+        binding = re.compile(
+            r"\blet (?P<let>[^=;]*\b%s\b[^=;]*)= |\bfor (?P<for>[^;{]*\b%s\b[^;{]*) in |\bmatch |\|(?P<of>[^|]*\b%s\b[^|]*)\|"
+            % (name, name, name)
+        )
+        for match in reversed(list(binding.finditer(self.text, 0, at))):
+            if match.group("of"):
+                call = re.search(r"\.\s*\w+\($", self.text[: match.start()].rstrip())
+                return self.with_parts(self.kinds_before(call.start(), call.start())) if call else set()
+            if match.group("let") and ":" in match.group("let"):
+                return self.types_in(match.group("let").partition(":")[2])
+            if match.group().startswith("match"):
+                arms = self.text[match.end() : at]
+                if not re.search(r"\b%s\b" % name, arms.partition("{")[2]):
+                    continue
+            return self.with_parts(self.kinds_at(match.end(), match.start()))
+        return self.parameters.get(name, set())
+
+    def kinds_at(self, start, names_until):
+        """The types of the expression that begins here."""
+        text = self.text[start:]
+        depth, end = 0, len(text)
+        for at, c in enumerate(text):
+            depth += (c in "([") - (c in ")]")
+            if depth < 0 or (depth == 0 and (c in ";{" or text[at:].startswith(" else"))):
+                end = at
+                break
+        head = text[:end].rstrip()
+        made = re.fullmatch(r"(?:\w+::)*([A-Z]\w*)", head)
+        if made:
+            return {self.function.owner if made.group(1) == "Self" else made.group(1)}
+        return self.kinds_before(start + len(head), names_until)
+
+    def with_parts(self, kinds):
+        """The types, and what their fields or variants are made of: a pattern takes them apart."""
+        parts = set(kinds)
+        for kind in kinds:
+            for text in self.program.fields.get(kind, {}).values():
+                parts |= self.types_in(text)
+        return parts
+
+
+def begins(program, function):
+    """Whether it is called by no name: a `main`, a test, or a method of a trait of std."""
+    is_main = function.name == "main" and sources.is_program(function.crate)
+    is_foreign = function.trait is not None and function.trait not in program.traits
+    return is_main or is_foreign or function.is_test
+
+
+def reached(with_tests):
+    """All functions, and those that a `main`, or with the tests a test, reaches."""
+    program = Program(with_tests)
+    pending = [f for f in program.functions if begins(program, f)]
+    seen, alive = set(), set()
+    while pending:
+        function = pending.pop()
+        if function in seen:
+            continue
+        seen.add(function)
+        body = Body(program, function)
+        alive |= set(re.findall(r"\b[A-Z]\w*", body.text)) & program.owners
+        pending += body.calls()
+        # A trait's method is one of each type that is made somewhere.
+        for other in program.functions:
+            if other.trait in program.traits and other.owner in alive and other not in seen:
+                if any(f in seen for f in program.methods_of({other.trait}, other.name)):
+                    pending.append(other)
+    return program, seen
+
+
+def unreached(with_tests=False):
+    """The public functions of the libraries that no program reaches, nor with the tests a test, but for laws."""
+    program, seen = reached(with_tests)
+    handed_out = {crate: sources.exported(crate) for crate in program.below}
+    return [
+        f
+        for f in program.functions
+        if f not in seen and f.is_public and not f.is_law and not f.is_test
+        and not sources.is_program(f.crate)
+        and (f.trait is None or f.trait in program.traits)
+        and (f.owner or f.name) in handed_out[f.crate]
+    ]
