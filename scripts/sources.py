@@ -15,11 +15,13 @@ class Function:
     def __init__(self, crate, file, scope, name, is_public):
         self.crate, self.file, self.name, self.is_public = crate, file, name, is_public
         self.owner, self.trait, self.is_test = scope.owner, scope.trait, scope.is_test
+        self.module = None
         self.clauses, self.signature, self.body = [], [], None
 
     @property
     def path(self):
-        return "::".join(part for part in (self.crate, self.owner, self.name) if part)
+        """Its name from outside, as `fk_core::Tables::row` or `fk_model::laws::pairs_are_sorted`."""
+        return "::".join(part for part in (self.crate, self.module, self.owner, self.name) if part)
 
     @property
     def is_law(self):
@@ -62,28 +64,34 @@ def source_files(crate):
                 yield os.path.relpath(os.path.join(folder, name), TOP)
 
 
-def exported(crate):
-    """The names that a library hands out, with the functions of its public modules."""
+def root_of(crate):
+    """The text of a library's first file, or nothing for a program."""
     root = os.path.join("crates", crate, "src", "lib.rt")
-    names = set()
-    if os.path.exists(os.path.join(TOP, root)):
-        text = read(root)
-        for use in re.findall(r"^pub use ([^;]*);", text, re.M):
-            names |= set(re.findall(r"\w+", use))
-        for module in re.findall(r"^pub mod (\w+);", text, re.M):
-            names |= names_of_module(crate, module)
-    return names
+    return read(root) if os.path.exists(os.path.join(TOP, root)) else ""
+
+
+def used(text):
+    """The names that a file hands on."""
+    return {name for use in re.findall(r"^pub use ([^;]*);", text, re.M) for name in re.findall(r"\w+", use)}
+
+
+def public_modules(crate):
+    """The public modules of a library, each with the names that it hands out."""
+    modules = re.findall(r"^pub mod (\w+);", root_of(crate), re.M)
+    return {module: names_of_module(crate, module) for module in modules}
+
+
+def exported(crate):
+    """The names that a library hands out, with those of its public modules."""
+    return used(root_of(crate)).union(*public_modules(crate).values())
 
 
 def names_of_module(crate, module):
-    """What a public module hands out, with that of its files, if it is a folder."""
+    """What a public module hands out, with the files of its folder, if it has one."""
     names = set()
     for file in source_files(crate):
         if file.endswith("/src/%s.rt" % module) or "/src/%s/" % module in file:
-            text = read(file)
-            names |= set(re.findall(r"^pub fn (\w+)", text, re.M))
-            for use in re.findall(r"^pub use ([^;]*);", text, re.M):
-                names |= set(re.findall(r"\w+", use))
+            names |= used(read(file)) | set(re.findall(r"^pub fn (\w+)", read(file), re.M))
     return names
 
 
@@ -96,6 +104,10 @@ def functions(crate):
     for file in source_files(crate):
         is_test = os.path.basename(file)[: -len(".rt")] in for_tests
         found += functions_in(crate, file, is_test)
+    at_root, modules = used(root_of(crate)), public_modules(crate)
+    for function in found:
+        if function.owner is None and function.name not in at_root:
+            function.module = next((m for m in modules if function.name in modules[m]), None)
     return found
 
 
