@@ -20,7 +20,7 @@ class Program:
             table.setdefault(f.name, []).append(f)
         self.owners = {f.owner for f in self.functions if f.owner}
         self.traits = {f.trait for f in self.functions if f.trait and f.trait == f.owner}
-        self.fields, self.imports = {}, {}
+        self.fields, self.parts, self.imports, self.implemented = {}, {}, {}, {}
         for crate in self.below:
             for file in sources.source_files(crate):
                 self.read_file(crate, file)
@@ -28,8 +28,14 @@ class Program:
     def read_file(self, crate, file):
         text = without_notes(sources.read(file))
         for name, fields in re.findall(r"\b(?:struct|enum) (\w+)[^;{(]*\{(.*?)^\}", text, re.M | re.S):
-            found = re.findall(r"(\w+): ([^,]+),", fields) + re.findall(r"(\w+)\(([^)]*)\)", fields)
+            found = re.findall(r"^ *(?:pub(?:\(crate\))? )?(\w+): (.*),$", fields, re.M)
             self.fields.setdefault(name, {}).update(found)
+            self.parts.setdefault(name, set()).update(re.findall(r"\b[A-Z]\w*", fields))
+        for line in re.findall(r"^impl.* for .*", text, re.M):
+            owner, trait = sources.names_of_impl(line)
+            self.implemented.setdefault(owner, set()).add(trait)
+        for trait, above in re.findall(r"\btrait (\w+)[^:{]*: ([^{]*)\{", text):
+            self.implemented.setdefault(trait, set()).update(re.findall(r"\w+", above))
         imports = self.imports.setdefault(file, {})
         for root, names in re.findall(r"^\s*use (\w+)::([^;]*);", text, re.M):
             for name in re.findall(r"\w+", names):
@@ -43,7 +49,10 @@ class Program:
         return here or [f for f in found if f.crate == crate]
 
     def methods_of(self, owners, name):
-        return [f for f in self.methods.get(name, []) if f.owner in owners]
+        """The methods of a name of these types, or those that their traits give them."""
+        traits = set().union(*(self.implemented.get(owner, set()) for owner in owners))
+        found = self.methods.get(name, [])
+        return [f for f in found if f.owner in owners] or [f for f in found if f.owner in traits]
 
     def visible(self, function, name):
         """The methods of a name, of the crates that this function's crate stands on."""
@@ -65,7 +74,10 @@ class Body:
         self.program, self.function = program, function
         self.text = without_notes("\n".join(function.body or []))
         self.signature = without_notes(" ".join(function.signature))
-        self.bounds = dict(re.findall(r"\b([A-Z]\w*): ([A-Z]\w*)", self.signature))
+        self.bounds = {
+            name: set(re.findall(r"\b[A-Z]\w*", bound))
+            for name, bound in re.findall(r"\b([A-Z]\w*): ([\w:+ ]+)", function.head + " " + self.signature)
+        }
         self.parameters = {
             name: self.types_in(kind)
             for name, kind in re.findall(r"\b([a-z_]\w*): ((?:[^,<>]|<[^()]*?>)+)", self.signature)
@@ -73,15 +85,18 @@ class Body:
 
     def types_in(self, text):
         """The types that a type is made of."""
-        names = {self.bounds.get(word, word) for word in re.findall(r"\b[A-Za-z]\w*", text)}
-        return {self.function.owner if name == "Self" else name for name in names}
+        words = re.findall(r"\b[A-Za-z]\w*", text)
+        return set().union(*(self.meant(word) for word in words))
+
+    def meant(self, word):
+        """What the name of a type stands for here: the traits of a type parameter, or itself."""
+        return {self.function.owner} if word == "Self" else self.bounds.get(word, {word})
 
     def calls(self):
         """The functions that the body may call."""
         found = set()
         for owner, name in re.findall(r"\b([A-Z]\w*)(?:::<[^>]*>)?::([a-z_]\w*)", self.text):
-            owner = self.function.owner if owner == "Self" else self.bounds.get(owner, owner)
-            found |= set(self.program.methods_of({owner}, name))
+            found |= set(self.program.methods_of(self.meant(owner), name))
         for name in re.findall(r"(?<![\w.])(?:\.\.)?([a-z_]\w*)\b(?!\s*:[^:])", self.text):
             found |= set(self.program.named(self.function, name))
         for match in re.finditer(r"\.\s*([a-z_]\w*)(?:::<[^>]*>)?\(", self.text):
@@ -148,7 +163,9 @@ class Body:
                 continue
             if is_call:
                 called = self.program.methods_of(kinds, name)
-                kinds = self.results_of(called) if called else kinds
+                # A method of std's on a container may give what is in it.
+                others = kinds - {function.owner for function in called}
+                kinds = self.results_of(called) | (kinds if others else set())
             else:
                 kinds = set().union(*(self.types_in(self.program.fields.get(k, {}).get(name, "")) for k in kinds))
         return kinds
@@ -196,11 +213,7 @@ class Body:
 
     def with_parts(self, kinds):
         """The types, and what their fields or variants are made of: a pattern takes them apart."""
-        parts = set(kinds)
-        for kind in kinds:
-            for text in self.program.fields.get(kind, {}).values():
-                parts |= self.types_in(text)
-        return parts
+        return kinds.union(*(self.program.parts.get(kind, set()) for kind in kinds))
 
 
 def begins(program, function):

@@ -15,7 +15,7 @@ class Function:
     def __init__(self, crate, file, scope, name, is_public):
         self.crate, self.file, self.name, self.is_public = crate, file, name, is_public
         self.owner, self.trait, self.is_test = scope.owner, scope.trait, scope.is_test
-        self.module = None
+        self.head, self.module = scope.head, None
         self.clauses, self.signature, self.body = [], [], None
 
     @property
@@ -30,10 +30,10 @@ class Function:
 
 
 class Scope:
-    """Where a line stands: in an `impl` of a type, in a trait, among tests."""
+    """Where a line stands: in an `impl` of a type or in a trait, with its first line, or among tests."""
 
-    def __init__(self, owner=None, trait=None, is_test=False):
-        self.owner, self.trait, self.is_test = owner, trait, is_test
+    def __init__(self, owner=None, trait=None, is_test=False, head=""):
+        self.owner, self.trait, self.is_test, self.head = owner, trait, is_test, head
 
 
 def read(path):
@@ -129,7 +129,7 @@ def scope_at(line, scope, is_test):
     if line == "}":
         return Scope(is_test=is_test)
     if line.startswith("impl"):
-        return Scope(*names_of_impl(line), is_test=is_test)
+        return Scope(*names_of_impl(line), is_test=is_test, head=line)
     trait = re.match(r"(?:pub )?trait (\w+)", line)
     if trait:
         return Scope(trait.group(1), trait.group(1), is_test)
