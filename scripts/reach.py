@@ -20,7 +20,7 @@ class Program:
             table.setdefault(f.name, []).append(f)
         self.owners = {f.owner for f in self.functions if f.owner}
         self.traits = {f.trait for f in self.functions if f.trait and f.trait == f.owner}
-        self.fields, self.parts, self.imports, self.implemented = {}, {}, {}, {}
+        self.fields, self.parts, self.imports, self.implemented, self.aliases = {}, {}, {}, {}, {}
         for crate in self.below:
             for file in sources.source_files(crate):
                 self.read_file(crate, file)
@@ -31,6 +31,8 @@ class Program:
             found = re.findall(r"^ *(?:pub(?:\(crate\))? )?(\w+): (.*),$", fields, re.M)
             self.fields.setdefault(name, {}).update(found)
             self.parts.setdefault(name, set()).update(re.findall(r"\b[A-Z]\w*", fields))
+        for name, kind in re.findall(r"^(?:pub(?:\(crate\))? )?type (\w+)[^=;]* = ([^;]*);", text, re.M):
+            self.aliases[name] = set(re.findall(r"\w+", kind))
         for line in re.findall(r"^impl.* for .*", text, re.M):
             owner, trait = sources.names_of_impl(line)
             self.implemented.setdefault(owner, set()).add(trait)
@@ -89,8 +91,11 @@ class Body:
         return set().union(*(self.meant(word) for word in words))
 
     def meant(self, word):
-        """What the name of a type stands for here: the traits of a type parameter, or itself."""
-        return {self.function.owner} if word == "Self" else self.bounds.get(word, {word})
+        """What the name of a type stands for here: the traits of a type parameter, or itself, with the types
+        that it is another name of."""
+        if word == "Self":
+            return {self.function.owner}
+        return self.bounds.get(word, {word} | self.program.aliases.get(word, set()))
 
     def calls(self):
         """The functions that the body may call."""
@@ -151,9 +156,9 @@ class Body:
             return set()
         if is_call:
             owner, _, name = root.rpartition("::")
-            owner = self.function.owner if owner == "Self" else owner
-            called = self.program.methods_of({owner}, name) or self.program.named(self.function, name)
-            kinds = self.results_of(called) or ({owner} if owner else set())
+            owners = self.meant(owner.rpartition("::")[2]) if owner else set()
+            called = self.program.methods_of(owners, name) or self.program.named(self.function, name)
+            kinds = self.results_of(called) or owners
         elif root == '""' or root[0].isdigit():
             kinds = {"str"}
         else:
@@ -208,7 +213,7 @@ class Body:
         head = text[:end].rstrip()
         made = re.fullmatch(r"(?:\w+::)*([A-Z]\w*)", head)
         if made:
-            return {self.function.owner if made.group(1) == "Self" else made.group(1)}
+            return self.meant(made.group(1))
         return self.kinds_before(start + len(head), names_until)
 
     def with_parts(self, kinds):
@@ -234,8 +239,10 @@ def reached(with_tests):
             continue
         seen.add(function)
         body = Body(program, function)
-        alive |= set(re.findall(r"\b[A-Z]\w*", body.text)) & program.owners
+        alive |= body.types_in(" ".join(re.findall(r"\b[A-Z]\w*", body.text))) & program.owners
         pending += body.calls()
+        if function.trait in program.traits:
+            pending += [f for f in program.methods_of({function.trait}, function.name) if f is not function]
         # A trait's method is one of each type that is made somewhere.
         for other in program.functions:
             if other.trait in program.traits and other.owner in alive and other not in seen:
