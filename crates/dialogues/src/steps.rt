@@ -1,0 +1,107 @@
+// Moves of a script.
+ghost use Rattle.std.specs.Prelude.{IsTrue};
+ghost use Rattle.fk_model.specs.Between.{IsAboveAll};
+
+use crate::escape::unescaped;
+use crate::fault::ScriptFault;
+use crate::numbers::number;
+use fk_core::Tables;
+use fk_job::{Job, Stamp};
+use fk_json::Text;
+use fk_model::{Move, Moves, Place, Row};
+use std::alloc::Global;
+
+/// The move that a text says: `add TICKET JID QUEUE PLACE`, `put TICKET PLACE`, `drop TICKET`,
+/// `drop all`, or `totals NEXT PROCESSED FAILURES`.
+pub fn move_of(alloc: Global, text: &str) -> Result<Move, ScriptFault> {
+    let words: Vec<&str> = text.split(' ').collect(alloc)?;
+    match words.as_slice() {
+        ["add", ticket, jid, queue, place @ ..] => Ok(Move::Add {
+            ticket: number(ticket)?,
+            row: row_of(alloc, jid, queue, place_of(alloc, place)?)?,
+        }),
+        ["put", ticket, place @ ..] => Ok(Move::Put {
+            ticket: number(ticket)?,
+            enqueued: Some(0),
+            failure: None,
+            place: place_of(alloc, place)?,
+        }),
+        ["drop", "all"] => Ok(Move::DropAll),
+        ["drop", ticket] => Ok(Move::Drop {
+            ticket: number(ticket)?,
+        }),
+        ["totals", next, processed, failures] => Ok(Move::Totals {
+            next: number(next)?,
+            processed: number(processed)?,
+            failures: number(failures)?,
+        }),
+        _ => Err(ScriptFault::NoMove),
+    }
+}
+
+/// The place that words say: `queued RANK`, `scheduled AT`, `retry AT`, `dead UNTIL`, or `working
+/// SINCE UNTIL`.
+fn place_of(alloc: Global, words: &[&str]) -> Result<Place, ScriptFault> {
+    match words {
+        ["queued", rank] => Ok(Place::Queued {
+            rank: number(rank)?,
+        }),
+        ["scheduled", at] => Ok(Place::Scheduled { at: number(at)? }),
+        ["retry", at] => Ok(Place::Retry { at: number(at)? }),
+        ["dead", until] => Ok(Place::Dead {
+            until: number(until)?,
+        }),
+        ["working", since, until] => Ok(Place::Working {
+            wid: Text::fixed(alloc, b""),
+            since: number(since)?,
+            until: number(until)?,
+        }),
+        _ => Err(ScriptFault::NoMove),
+    }
+}
+
+/// A row of a job that was pushed at the moment 0.
+fn row_of(alloc: Global, jid: &str, queue: &str, place: Place) -> Result<Row, ScriptFault> {
+    Ok(Row {
+        job: Job {
+            jid: unescaped(alloc, jid)?,
+            jobtype: Text::fixed(alloc, b"Mail"),
+            queue: unescaped(alloc, queue)?,
+            retry: 25,
+            reserve_for: 1800,
+            at: None,
+            has_created: false,
+            body: Text::fixed(alloc, b"\"args\":[]"),
+        },
+        stamp: Stamp {
+            created: 0,
+            enqueued: Some(0),
+            failure: None,
+        },
+        place,
+    })
+}
+
+/// Makes a move, if it fits.
+#[tactic(auto, unfolding(fk_model::specs::Changes::FitInTurn))]
+pub fn make(alloc: Global, tables: &mut Tables, step: Move) -> Result<(), ScriptFault> {
+    if !tables.fits(&step) {
+        return Err(ScriptFault::MoveDoesNotFit);
+    }
+    let mut moves = Moves::new(alloc);
+    moves.push(step)?;
+    tables.reserve(&moves)?;
+    tables.apply(&mut moves);
+    Ok(())
+}
+
+/// Whether a connection may be served: the next number is above all tickets and ranks.
+pub fn is_ready(tables: &Tables) -> bool
+    ensures { IsTrue result → IsAboveAll tables.now.kept.next tables.now.kept.rows }
+{
+    tables.fits(&Move::Totals {
+        next: tables.next(),
+        processed: tables.processed(),
+        failures: tables.failures(),
+    })
+}
