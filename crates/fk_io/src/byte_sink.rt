@@ -80,9 +80,7 @@ impl ByteSink {
 }
 
 impl Sink for ByteSink {
-    ghost held = { λ s. Some s.held };
-
-    ghost write_faults = { λ s. s.faults };
+    ghost written = { λ s. record { held = Some s.held; faults = s.faults } };
 
     /// A listed call fails. Any other takes the whole piece, or fails for want of memory.
     fn put(&mut self, piece: &[u8]) -> Result<usize, Failed>

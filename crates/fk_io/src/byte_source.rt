@@ -110,9 +110,7 @@ impl ByteSource {
 }
 
 impl Source for ByteSource {
-    ghost left = { λ s. Some s.left };
-
-    ghost read_faults = { λ s. s.faults };
+    ghost supply = { λ s. record { left = Some s.left; faults = s.faults } };
 
     /// A listed call fails. Any other gives the next piece.
     #[tactic(auto, using(crate::proofs::Pieces::front_then_rest))]

@@ -6,12 +6,10 @@ use crate::{Sink, Source};
 /// count of failed writes, and a write leaves what is to come and its count of failed reads.
 pub trait Duplex: Source + Sink {
     /// The side that a read leaves is the sink.
-    ghost reads_apart: { (wire : Self) →
-        Self.sink_side wire ≡ (Self.held wire, Self.write_faults wire) };
+    ghost reads_apart: { (wire : Self) → Self.sink_side wire ≡ Self.written wire };
 
     /// The side that a write leaves is the source.
-    ghost writes_apart: { (wire : Self) →
-        Self.source_side wire ≡ (Self.left wire, Self.read_faults wire) };
+    ghost writes_apart: { (wire : Self) → Self.source_side wire ≡ Self.supply wire };
 }
 
 #[cfg(test)]
@@ -28,11 +26,9 @@ mod tests {
     }
 
     impl Source for Wire {
-        ghost left = { λ wire. Some wire.from.left };
+        ghost supply = { λ wire. record { left = Some wire.from.left; faults = wire.from.faults } };
 
-        ghost read_faults = { λ wire. wire.from.faults };
-
-        ghost sink_side = { λ wire. (Some wire.to.held, wire.to.faults) };
+        ghost sink_side = { λ wire. record { held = Some wire.to.held; faults = wire.to.faults } };
 
         fn take(&mut self, into: &mut [u8]) -> Result<usize, Failed> {
             self.from.take(into)
@@ -40,11 +36,12 @@ mod tests {
     }
 
     impl Sink for Wire {
-        ghost held = { λ wire. Some wire.to.held };
+        ghost written = { λ wire. record { held = Some wire.to.held; faults = wire.to.faults } };
 
-        ghost write_faults = { λ wire. wire.to.faults };
-
-        ghost source_side = { λ wire. (Some wire.from.left, wire.from.faults) };
+        ghost source_side = { λ wire. record {
+          left = Some wire.from.left;
+          faults = wire.from.faults;
+        } };
 
         fn put(&mut self, piece: &[u8]) -> Result<usize, Failed> {
             self.to.put(piece)
@@ -59,16 +56,14 @@ mod tests {
 
     /// A read, of which a session may say what it leaves.
     fn hears<W: Duplex>(wire: &mut W, into: &mut [u8]) -> Result<usize, Failed>
-        ensures held { W.held wire.new ≡ W.held wire.old }
-        ensures faults { W.write_faults wire.new ≡ W.write_faults wire.old }
+        ensures { W.written wire.new ≡ W.written wire.old }
     {
         wire.take(into)
     }
 
     /// A write, of which a session may say what it leaves.
     fn says<W: Duplex>(wire: &mut W, piece: &[u8]) -> Result<usize, Failed>
-        ensures left { W.left wire.new ≡ W.left wire.old }
-        ensures faults { W.read_faults wire.new ≡ W.read_faults wire.old }
+        ensures { W.supply wire.new ≡ W.supply wire.old }
     {
         wire.put(piece)
     }

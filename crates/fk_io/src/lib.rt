@@ -29,6 +29,6 @@ pub use list_dice::ListDice;
 pub use rand_dice::RandDice;
 pub use real_clock::RealClock;
 pub use sink::Sink;
-pub use source::Source;
+pub use source::{PIECE_MAX, Source};
 pub use std_sink::StdSink;
 pub use std_source::StdSource;

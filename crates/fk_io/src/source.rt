@@ -1,30 +1,31 @@
-ghost use Rattle.std.specs.Prelude.{◌≡◌, ◌≢◌, ◌≤◌, ℕ, List, [], Option, None, Ok, length, take, drop, IfOk, OnErr};
-ghost use Rattle.fk_io.specs.Content.{Took, IsAtEnd};
+ghost use Rattle.std.specs.Prelude.{◌≡◌, ◌≢◌, ◌≤◌, [], Ok, length, take, drop, IfOk, OnErr};
+ghost use Rattle.fk_io.specs.Content.{Supply, Written, Took, IsAtEnd, nothing_written};
 ghost use Rattle.fk_io.specs.Faults.{HasCause};
 
 use crate::Failed;
 
+/// The most bytes that one read asks for.
+pub const PIECE_MAX: usize = 4_096;
+
 /// Where bytes come from.
 pub trait Source {
-    /// The bytes to come, where the source tells them.
-    ghost left: { Self → Option (List ℕ) };
+    /// The bytes to come, where the source tells them, and how often a read has failed.
+    ghost supply: { Self → Supply };
 
-    /// How often a read has failed.
-    ghost read_faults: { Self → ℕ };
-
-    /// What the same object holds as a sink, and that sink's count of faults. A read leaves them.
-    /// An object that is a source alone holds nothing. `Duplex` ties them to the sink.
-    ghost sink_side: { Self → Option (List ℕ) × ℕ } = { λ _. (None, 0) };
+    /// What the same object tells as a sink. A read leaves that. An object that is a source alone
+    /// holds nothing. `Duplex` ties it to the sink.
+    ghost sink_side: { Self → Written } = { λ _. nothing_written };
 
     /// Reads the next bytes into the front of `into`, and answers how many, in bytes: at most the
     /// buffer's length. The bytes behind them stay. 0 for a buffer with room means the end of
     /// input. After a failure nothing was taken, and nothing is said of the buffer.
     fn take(&mut self, into: &mut [u8]) -> Result<usize, Failed>
         ensures count { IfOk result (λ n. n ≤ length into.new) }
-        ensures taken { IfOk result (λ n. Took (left self.old) (take n into.new) (left self.new)) }
+        ensures taken { IfOk result (λ n.
+            Took (supply self.old).left (take n into.new) (supply self.new).left) }
         ensures rest { IfOk result (λ n. drop n into.new ≡ drop n into.old) }
-        ensures end { result ≡ Ok 0 → into.old ≢ [] → IsAtEnd (left self.old) }
-        ensures same { OnErr result (left self.new ≡ left self.old) }
-        ensures cause { HasCause (read_faults self.old) (read_faults self.new) result }
+        ensures end { result ≡ Ok 0 → into.old ≢ [] → IsAtEnd (supply self.old).left }
+        ensures same { OnErr result ((supply self.new).left ≡ (supply self.old).left) }
+        ensures cause { HasCause (supply self.old).faults (supply self.new).faults result }
         ensures apart { sink_side self.new ≡ sink_side self.old };
 }

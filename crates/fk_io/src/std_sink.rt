@@ -50,9 +50,7 @@ fn write_some<P: Print>(to: &P, piece: &[u8]) -> Result<usize, Failed>
 }
 
 impl<P: Print + Drop> Sink for StdSink<P> {
-    ghost held = { λ _. None };
-
-    ghost write_faults = { λ s. s };
+    ghost written = { λ s. record { held = None; faults = s } };
 
     fn put(&mut self, piece: &[u8]) -> Result<usize, Failed> {
         match write_some(&self.to, piece) {

@@ -1,11 +1,8 @@
 ghost use Rattle.std.specs.Prelude.{◌≡◌, ◌≤◌, None, length, IfOk};
 
-use crate::{Failed, Source, raised};
+use crate::{Failed, PIECE_MAX, Source, raised};
 use std::io::{ErrorKind, Read};
 use std::marker::Model;
-
-/// The most bytes that one read of the standard input asks for.
-const PIECE: usize = 4096;
 
 /// The standard input. It tells nothing of its bytes, and is seen as its count of faults.
 pub struct StdSource<R: Input> {
@@ -63,14 +60,12 @@ fn read_some<R: Read>(reader: &mut R, into: &mut [u8]) -> Result<usize, Failed>
 }
 
 impl<R: Input> Source for StdSource<R> {
-    ghost left = { λ _. None };
-
-    ghost read_faults = { λ s. s };
+    ghost supply = { λ s. record { left = None; faults = s } };
 
     fn take(&mut self, into: &mut [u8]) -> Result<usize, Failed> {
         // A read may leave anything behind the bytes that it gives, so they are read aside.
-        let mut piece = [0; PIECE];
-        let room = into.len().min(PIECE);
+        let mut piece = [0; PIECE_MAX];
+        let room = into.len().min(PIECE_MAX);
         match read_some(&mut self.reader, &mut piece[..room]) {
             Ok(n) => {
                 into[..n].copy_from_slice(&piece[..n]);
