@@ -12,11 +12,11 @@ use Rattle.fk_model.specs.declared.item.Phase.TheVariants.{Over}
 use Rattle.fk_model.specs.Advance.{Advances}
 use Rattle.fk_model.specs.Script.{AreItemsOf, phase_after, too_long}
 use Rattle.fk_model.proofs.Advance.{stays, joined, by_line, by_long_line}
-use Rattle.fk_server.specs.Answering.{Results, Gives, GivesLine, StopsGiving, StopsAtItem, StopsAtLine, Standing, Answers, StopsAnswering}
+use Rattle.fk_server.specs.Answering.{Results, Gives, GivesLine, StopsGiving, StopsAtItem, StopsAtLine, AtHand, Answers, StopsAnswering}
 use Rattle.fk_server.proofs.Giving.{gives_nothing, gives_both, starved_first, stops_giving_behind}
 
 -- no line was answered
-pub answers_nothing : (now : Standing) → Answers now now
+pub answers_nothing : (now : AtHand) → Answers now now
 answers_nothing now = record {
   items = [];
   advances = stays now.phase now.lines;
@@ -24,7 +24,7 @@ answers_nothing now = record {
 }
 
 -- some lines were answered, and then more of them
-answers_more : (old mid new : Standing) (items : List Item) → Answers old mid
+answers_more : (old mid new : AtHand) (items : List Item) → Answers old mid
     → Advances mid.phase mid.lines items new.phase new.lines → Gives mid.done new.done items → Answers old new
 answers_more old mid new items before goes gives = record {
   items = before.items ++ items;
@@ -33,7 +33,7 @@ answers_more old mid new items before goes gives = record {
 }
 
 -- some lines were answered, and then the answering stopped
-stops_behind_answers : (ended : Ended) (old mid : Standing) (done : Results) (begun : Option Item) (phase : Phase)
+stops_behind_answers : (ended : Ended) (old mid : AtHand) (done : Results) (begun : Option Item) (phase : Phase)
     (rest : List ℕ) → Answers old mid → Advances mid.phase mid.lines (option_to_list begun) phase rest
     → StopsGiving ended mid.done done [] begun → StopsAnswering ended old done
 stops_behind_answers ended old mid done begun phase rest before goes stops = record {
@@ -51,7 +51,7 @@ line_advances : (phase : Phase) (bytes line rest : List ℕ) (items : List Item)
 line_advances phase bytes line rest items first are = by_line phase bytes (Whole line) items rest are first.lines
 
 -- a whole line was answered
-pub answers_line : (old mid new : Standing) (line : List ℕ) → Answers old mid → IsFirstLine mid.lines line new.lines
+pub answers_line : (old mid new : AtHand) (line : List ℕ) → Answers old mid → IsFirstLine mid.lines line new.lines
     → new.phase ≡ phase_after mid.phase (Whole line) → GivesLine mid.phase (Whole line) mid.done new.done
     → Answers old new
 answers_line old mid new line before first comes given =
@@ -59,7 +59,7 @@ answers_line old mid new line before first comes given =
     (rw comes (line_advances mid.phase mid.lines line new.lines (option_to_list given.item) first given.are)) given.gives
 
 -- the answering of a whole line stopped: before its turn was made, the line stands among what is left
-pub stops_at_line : (ended : Ended) (old mid : Standing) (done : Results) (line rest : List ℕ)
+pub stops_at_line : (ended : Ended) (old mid : AtHand) (done : Results) (line rest : List ℕ)
     → Answers old mid → IsFirstLine mid.lines line rest
     → StopsAtLine ended mid.phase (Whole line) mid.done done → StopsAnswering ended old done
 stops_at_line ended old mid done line rest before first (inl stops) =
@@ -69,13 +69,13 @@ stops_at_line ended old mid done line rest before first (inr (item, are, stops))
     (line_advances mid.phase mid.lines line rest (option_to_list item) first are) stops
 
 -- memory ran out between two lines
-pub starved_between : (old mid : Standing) → Answers old mid → StopsAnswering NoMemory old mid.done
+pub starved_between : (old mid : AtHand) → Answers old mid → StopsAnswering NoMemory old mid.done
 starved_between old mid before =
     stops_behind_answers NoMemory old mid mid.done None mid.phase mid.lines before (stays mid.phase mid.lines)
     (starved_first mid.done mid.done refl refl)
 
 -- a line that is too long was answered, or was not
-pub answers_long_line : (r : Result (Unit {0}) Ended) (old mid new : Standing)
+pub answers_long_line : (r : Result (Unit {0}) Ended) (old mid new : AtHand)
     → Answers old mid → HasLongLine mid.lines new.lines → mid.phase ≢ Over
     → OnOk r (new.phase ≡ Over) → OnOk r (Gives mid.done new.done (too_long ∷ [])) → OnOk r (Answers old new)
 answers_long_line (Ok x) old mid new before long going over gives =
@@ -83,7 +83,7 @@ answers_long_line (Ok x) old mid new before long going over gives =
     (rw over (by_long_line mid.phase mid.lines new.lines going long.lines)) gives
 answers_long_line (Err ended) old mid new before long going over gives = tt
 
-stops_in_long_line : (ended : Ended) (old mid : Standing) (done : Results) (rest : List ℕ)
+stops_in_long_line : (ended : Ended) (old mid : AtHand) (done : Results) (rest : List ℕ)
     → Answers old mid → HasLongLine mid.lines rest → mid.phase ≢ Over
     → StopsAtItem ended mid.done done (Some too_long) → StopsAnswering ended old done
 stops_in_long_line ended old mid done rest before long going (inl stops) =
@@ -92,7 +92,7 @@ stops_in_long_line ended old mid done rest before long going (inr stops) =
     stops_behind_answers ended old mid done (Some too_long) Over rest before
     (by_long_line mid.phase mid.lines rest going long.lines) stops
 
-pub stops_at_long_line : (r : Result (Unit {0}) Ended) (old mid : Standing) (done : Results) (rest : List ℕ)
+pub stops_at_long_line : (r : Result (Unit {0}) Ended) (old mid : AtHand) (done : Results) (rest : List ℕ)
     → Answers old mid → HasLongLine mid.lines rest → mid.phase ≢ Over
     → IfErr r (λ ended. StopsAtItem ended mid.done done (Some too_long))
     → IfErr r (λ ended. StopsAnswering ended old done)

@@ -18,7 +18,7 @@ use Rattle.fk_model.specs.declared.item.Item.TheVariants.{Asks}
 use Rattle.fk_model.specs.Payloads.{AreElements, Element, taken, barred, HasKey, IsBatch, IsElement, batch_text, fault_text, jobs_among, refusals}
 use Rattle.fk_server.specs.declared.batch.ReadBatch.{ReadBatch}
 use Rattle.fk_server.specs.Batches.{Grows, IsReadAs}
-use Rattle.fk_server.proofs.Told.{refused_without_float}
+use Rattle.fk_server.proofs.RefusalsPut.{refused_without_float}
 
 -- one more element behind those that were read
 are_elements-snoc : (text : List ℕ) (spans : List Span) (elements : List Element) (span : Span) (element : Element)
@@ -52,7 +52,7 @@ reads_next text spans span old new before grows = record {
   are_read = are_elements-snoc text spans before.elements span grows.element before.are_read grows.is_read;
   jobs = grows.jobs ∙ ap (λ jobs. jobs ++ jobs_among (grows.element ∷ [])) before.jobs
       ∙ sym (jobs_among-append before.elements (grows.element ∷ []));
-  told = grows.told ∙ ap (refusals (grows.element ∷ [])) before.told
+  reasons = grows.reasons ∙ ap (refusals (grows.element ∷ [])) before.reasons
       ∙ sym (refusals-append before.elements (grows.element ∷ []) no_members);
 }
 
@@ -64,23 +64,23 @@ keeps_element (Ok done) text job old new is kept same = record {
   element = taken job;
   is_read = is;
   jobs = kept;
-  told = ap (λ refusals. members_view refusals.entries) same;
+  reasons = ap (λ refusals. members_view refusals.entries) same;
 }
 keeps_element (Err refused) text job old new is kept same = tt
 
 -- an element is none, and its fault is put under its key
-pub tells_element : {E : Type 0} (result : Result (Unit {0}) E) (text : List ℕ) (fault : JobFault) (old new : ReadBatch)
+pub bars_element : {E : Type 0} (result : Result (Unit {0}) E) (text : List ℕ) (fault : JobFault) (old new : ReadBatch)
     → HasFault text fault
     → OnOk result ((key : List ℕ) × HasKey text key × (members_view new.refusals.entries
     ≡ put key (string (fault_text fault)) (members_view old.refusals.entries)))
     → new.jobs ≡ old.jobs → OnOk result (Grows text old new)
-tells_element (Ok done) text fault old new has told same = record {
+bars_element (Ok done) text fault old new has told same = record {
   element = barred told.0 (fault_text fault);
   is_read = (fault, has, told.1, refl);
   jobs = ap (λ jobs. jobs.items) same ∙ sym (append-nil old.jobs.items);
-  told = told.2;
+  reasons = told.2;
 }
-tells_element (Err refused) text fault old new has told same = tt
+bars_element (Err refused) text fault old new has told same = tt
 
 -- a place outside of every list
 abbrev pub no_span : Span
@@ -106,29 +106,29 @@ reads_on text spans at old new within before grows =
     rw longer (reads_next text (take at spans) _ old new before grows)
 
 -- what a batch that was read whole asks for
-told_of : (text : List ℕ) (spans : List Span) (batch : ReadBatch) (item : Item) → IsArrayText most_levels text spans
+asks_for_read : (text : List ℕ) (spans : List Span) (batch : ReadBatch) (item : Item) → IsArrayText most_levels text spans
     → IsReadAs text spans batch
     → item ≡ Asks (PushBatch batch.jobs.items (compact_text (object (members_view batch.refusals.entries))))
     → IsBatch text item
-told_of text spans batch item is reads same = inl (
+asks_for_read text spans batch item is reads same = inl (
   spans,
   reads.elements,
   is,
   reads.are_read,
-  same ∙ ap (λ told. Asks (PushBatch batch.jobs.items (compact_text (object told)))) reads.told
+  same ∙ ap (λ told. Asks (PushBatch batch.jobs.items (compact_text (object told)))) reads.reasons
       ∙ ap (λ jobs. Asks (PushBatch jobs (batch_text reads.elements))) reads.jobs,
 )
 
-pub tells_batch : {E : Type 0} (text : List ℕ) (spans : List Span) (batch : ReadBatch) (found : Result Item E)
+pub asks_for_batch : {E : Type 0} (text : List ℕ) (spans : List Span) (batch : ReadBatch) (found : Result Item E)
     → IsArrayText most_levels text spans → IsReadAs text spans batch
     → IfOk found (λ item. item
     ≡ Asks (PushBatch batch.jobs.items (compact_text (object (members_view batch.refusals.entries)))))
     → IfOk found (IsBatch text)
-tells_batch text spans batch (Ok item) is reads same = told_of text spans batch item is reads same
-tells_batch text spans batch (Err refused) is reads same = tt
+asks_for_batch text spans batch (Ok item) is reads same = asks_for_read text spans batch item is reads same
+asks_for_batch text spans batch (Err refused) is reads same = tt
 
 -- no refusal of a batch is a float
-pub told_without_float : (text : List ℕ) (spans : List Span) (batch : ReadBatch) → IsReadAs text spans batch
+pub refusals_without_float : (text : List ℕ) (spans : List Span) (batch : ReadBatch) → IsReadAs text spans batch
     → members_have_float (members_view batch.refusals.entries) ≡ false
-told_without_float text spans batch reads =
-    rw reads.told (refused_without_float reads.elements no_members refl)
+refusals_without_float text spans batch reads =
+    rw reads.reasons (refused_without_float reads.elements no_members refl)

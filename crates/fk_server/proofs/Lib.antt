@@ -2,12 +2,12 @@ pub mod Turning
 pub mod Writing
 pub mod Giving
 pub mod Answering
-pub mod Stands
+pub mod BetweenReads
 pub mod Ends
 pub mod Breaks
 pub mod Words
 pub mod Refusals
 pub mod Keys
 pub mod ReadValues
-pub mod Told
+pub mod RefusalsPut
 pub mod Batches

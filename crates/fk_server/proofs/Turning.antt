@@ -24,7 +24,7 @@ use Rattle.fk_model.specs.declared.move_.Move.{Move}
 use Rattle.fk_model.specs.declared.row.Row.{Row}
 use Rattle.fk_model.specs.Limits.{greatest_next}
 use Rattle.fk_model.specs.State.{KeptState, State, without_workers}
-use Rattle.fk_model.specs.Between.{IsAboveAll, IsWellKept, IsBetweenTurns}
+use Rattle.fk_model.specs.Between.{IsWellKept, IsBetweenTurns}
 use Rattle.fk_model.specs.Range.{IsInRange}
 use Rattle.fk_model.specs.Spellings.{IsWord}
 use Rattle.fk_model.specs.Requests.{fetched}
@@ -35,7 +35,7 @@ use Rattle.fk_model.specs.History.{next_state, faults_after, IsTold, IsRightAnsw
 use Rattle.fk_model.proofs.Outs.{out-own, out-asks}
 use Rattle.fk_model.proofs.Histories.{legal_goes_on}
 use Rattle.fk_model.proofs.BetweenTurns.{next_keeps}
-use Rattle.fk_server.specs.Turning.{EndBeyond, Makes, Replies, Server, Turned, entry_of, moments_in, server, words_in}
+use Rattle.fk_server.specs.Turning.{EndBeyond, MakesTurn, Replies, Server, Turned, entry_of, moments_in, server, words_in}
 
 -- ---- histories
 
@@ -62,7 +62,7 @@ turned_nothing now = record {
 pub turned_both : (old mid new : Server) (xs ys : List Entry) → Turned old mid xs → Turned mid new ys
     → Turned old new (xs ++ ys)
 turned_both old mid new xs ys first second =
-    let s = without_workers old.kept in
+    let s = old.state in
     let none = no_faults s 0 xs refl first.legal in
     record {
       seats = All-append (λ entry. entry.seat ≡ 0) xs ys first.seats second.seats;
@@ -104,10 +104,11 @@ none_by_choice : (kept : KeptState) (ask : Ask) (moment word : ℕ) (served : Bo
 none_by_choice kept ask moment word true = none_by_effect kept ask moment word
 none_by_choice kept ask moment word false = refl
 
-pub no_worker_comes : (kept : KeptState) (ask : Ask) (moment word : ℕ)
-    → (turn (without_workers kept) ask moment word).state
-    ≡ without_workers (turn (without_workers kept) ask moment word).state.kept
-no_worker_comes kept ask moment word = none_by_choice kept ask moment word (is_served moment ask)
+pub no_worker_comes : (kept new : KeptState) (ask : Ask) (moment word : ℕ)
+    → new ≡ (turn (without_workers kept) ask moment word).state.kept
+    → without_workers new ≡ (turn (without_workers kept) ask moment word).state
+no_worker_comes kept new ask moment word same =
+    ap without_workers same ∙ sym (none_by_choice kept ask moment word (is_served moment ask))
 
 -- what is told of a turn
 told_of_turn : (moment word : ℕ) → moment < greatest → IsWord word
@@ -116,53 +117,49 @@ told_of_turn moment word below fits =
     record { moment = below; word = fits; before = refl; after = refl; compaction = refl }
 
 -- memory ran out in a turn
-pub starves : (kept : KeptState) (ask : Ask) (moment word : ℕ) → IsInRange ask → moment < greatest → IsWord word
-    → IsStep (without_workers kept) (entry_of ask moment word NoMemory) (without_workers kept)
+pub starves : (s : State) (ask : Ask) (moment word : ℕ) → IsInRange ask → moment < greatest → IsWord word
+    → IsStep s (entry_of ask moment word NoMemory) s
 unfolding next_state
-starves kept ask moment word range below fits = record {
+starves s ask moment word range below fits = record {
   right = record { in_range = range; told = told_of_turn moment word below fits; answer = tt };
   leads = refl;
 }
 
 -- a turn would be over its limit
-pub is_full : (kept : KeptState) (ask : Ask) (moment word : ℕ) → IsInRange ask → moment < greatest → IsWord word
-    → IsOverLimit (without_workers kept) ask moment word
-    → IsStep (without_workers kept) (entry_of ask moment word Full) (without_workers kept)
+pub is_full : (s : State) (ask : Ask) (moment word : ℕ) → IsInRange ask → moment < greatest → IsWord word
+    → IsOverLimit s ask moment word → IsStep s (entry_of ask moment word Full) s
 unfolding next_state
-is_full kept ask moment word range below fits over = record {
+is_full s ask moment word range below fits over = record {
   right = record { in_range = range; told = told_of_turn moment word below fits; answer = over };
   leads = refl;
 }
 
 -- a turn was made
-pub says : (kept new : KeptState) (ask : Ask) (moment word : ℕ) (reply : Reply) → IsInRange ask → moment < greatest → IsWord word
-    → ¬ IsOverLimit (without_workers kept) ask moment word
-    → reply ≡ (turn (without_workers kept) ask moment word).reply
-    → new ≡ (turn (without_workers kept) ask moment word).state.kept
-    → IsStep (without_workers kept) (entry_of ask moment word (Said reply)) (without_workers new)
+pub says : (s after : State) (ask : Ask) (moment word : ℕ) (reply : Reply) → IsInRange ask → moment < greatest → IsWord word
+    → ¬ IsOverLimit s ask moment word → reply ≡ (turn s ask moment word).reply → after ≡ (turn s ask moment word).state
+    → IsStep s (entry_of ask moment word (Said reply)) after
 unfolding next_state
-says kept new ask moment word reply range below fits within said same = record {
+says s after ask moment word reply range below fits within said same = record {
   right = record { in_range = range; told = told_of_turn moment word below fits; answer = (within, said) };
-  leads = ap without_workers same ∙ sym (no_worker_comes kept ask moment word);
+  leads = same;
 }
 
--- the next number is above all tickets and ranks behind a step, too
-pub still_above : (kept new : KeptState) (entry : Entry) → IsWellKept kept
-    → IsStep (without_workers kept) entry (without_workers new) → IsAboveAll new.next new.rows
+-- what holds between turns holds behind a step, too
+pub still_between : (s after : State) (entry : Entry) → IsBetweenTurns s → IsStep s entry after → IsBetweenTurns after
+still_between s after entry between step = rw step.leads (next_keeps s entry between step.right)
+
+-- and it holds of a kept state without workers that is well kept
+pub between_turns : (kept : KeptState) → IsWellKept kept → IsBetweenTurns (without_workers kept)
 unfolding IsDistinct
-still_above kept new entry well step =
-    let ready : IsBetweenTurns (without_workers kept) = record { kept = well; names = tt } in
-    let behind : IsBetweenTurns (without_workers new) =
-    rw step.leads (next_keeps (without_workers kept) entry ready step.right) in
-    behind.kept.above
+between_turns kept well = record { kept = well; names = tt }
 
 -- a turn took a moment and a word, and was made at them
-pub makes_turn : (kept new : KeptState) (moments words later_moments later_words : Option (List ℕ)) (ask : Ask)
+pub makes_turn : (s after : State) (moments words later_moments later_words : Option (List ℕ)) (ask : Ask)
     (moment word : ℕ) (answer : Answer) → Tells moments moment later_moments → Tells words word later_words
-    → IsStep (without_workers kept) (entry_of ask moment word answer) (without_workers new)
-    → Makes (server kept moments words) (server new later_moments later_words) ask answer
+    → IsStep s (entry_of ask moment word answer) after
+    → MakesTurn (server s moments words) (server after later_moments later_words) ask answer
 unfolding IsLegalFrom
-makes_turn kept new moments words later_moments later_words ask moment word answer when rolled step = record {
+makes_turn s after moments words later_moments later_words ask moment word answer when rolled step = record {
   moment = moment;
   word = word;
   turned = record {
@@ -197,32 +194,29 @@ end_of (move ∷ moves) before kept within stays =
     rw (last_is (move ∷ moves) (totals kept)) ((λ over. over), (λ over. over))
 
 -- the end of a turn's moves tells whether it is over its limit
-limit_told : (kept : KeptState) (ask : Ask) (moment word : ℕ) (moves : List Move)
-    → moves ≡ moves_of_turn (without_workers kept) ask moment word → kept.next ≤ greatest_next
-    → (moves ≡ [] → (turn (without_workers kept) ask moment word).state.kept ≡ kept)
-    → EndBeyond moves ↔ IsOverLimit (without_workers kept) ask moment word
-limit_told kept ask moment word moves are within stays =
-    let s = without_workers kept in
-    rw are (end_of (moves_due s moment word ++ moves_said kept (up_to_date s moment word) ask moment word)
-    kept (turn s ask moment word).state.kept within (rw are at stays))
+limit_told : (s : State) (ask : Ask) (moment word : ℕ) (moves : List Move)
+    → moves ≡ moves_of_turn s ask moment word → s.kept.next ≤ greatest_next
+    → (moves ≡ [] → (turn s ask moment word).state.kept ≡ s.kept)
+    → EndBeyond moves ↔ IsOverLimit s ask moment word
+limit_told s ask moment word moves are within stays =
+    rw are (end_of (moves_due s moment word ++ moves_said s.kept (up_to_date s moment word) ask moment word)
+    s.kept (turn s ask moment word).state.kept within (rw are at stays))
 
 -- where the test of that end says so, it is
-pub is_beyond : (kept : KeptState) (ask : Ask) (moment word : ℕ) (moves : List Move) (over : Bool)
-    → moves ≡ moves_of_turn (without_workers kept) ask moment word → kept.next ≤ greatest_next
-    → (moves ≡ [] → (turn (without_workers kept) ask moment word).state.kept ≡ kept)
-    → IsTrue over ↔ EndBeyond moves → over ≡ true
-    → IsOverLimit (without_workers kept) ask moment word
-is_beyond kept ask moment word moves over are within stays tested told =
-    (limit_told kept ask moment word moves are within stays).0 (tested.0 told)
+pub is_beyond : (s : State) (ask : Ask) (moment word : ℕ) (moves : List Move) (over : Bool)
+    → moves ≡ moves_of_turn s ask moment word → s.kept.next ≤ greatest_next
+    → (moves ≡ [] → (turn s ask moment word).state.kept ≡ s.kept)
+    → IsTrue over ↔ EndBeyond moves → over ≡ true → IsOverLimit s ask moment word
+is_beyond s ask moment word moves over are within stays tested told =
+    (limit_told s ask moment word moves are within stays).0 (tested.0 told)
 
 -- and where it doesn't, it isn't
-pub is_within : (kept : KeptState) (ask : Ask) (moment word : ℕ) (moves : List Move) (over : Bool)
-    → moves ≡ moves_of_turn (without_workers kept) ask moment word → kept.next ≤ greatest_next
-    → (moves ≡ [] → (turn (without_workers kept) ask moment word).state.kept ≡ kept)
-    → IsTrue over ↔ EndBeyond moves → over ≡ false
-    → ¬ IsOverLimit (without_workers kept) ask moment word
-is_within kept ask moment word moves over are within stays tested untold beyond =
-    let same = limit_told kept ask moment word moves are within stays in
+pub is_within : (s : State) (ask : Ask) (moment word : ℕ) (moves : List Move) (over : Bool)
+    → moves ≡ moves_of_turn s ask moment word → s.kept.next ≤ greatest_next
+    → (moves ≡ [] → (turn s ask moment word).state.kept ≡ s.kept)
+    → IsTrue over ↔ EndBeyond moves → over ≡ false → ¬ IsOverLimit s ask moment word
+is_within s ask moment word moves over are within stays tested untold beyond =
+    let same = limit_told s ask moment word moves are within stays in
     false≢true (sym untold ∙ tested.1 (same.1 beyond))
 
 -- ---- what is replied
@@ -256,11 +250,11 @@ answer_in_form s entry NoMemory right = search rules
 answer_in_form s entry Full right = search rules
 answer_in_form s entry DiskFault right = absurd right
 
-pub made_in_form : (old new : Server) (ask : Ask) (answer : Answer) → Makes old new ask answer
+pub made_in_form : (old new : Server) (ask : Ask) (answer : Answer) → MakesTurn old new ask answer
     → IsWellFormed (reply_of answer)
 unfolding IsLegalFrom
 made_in_form old new ask answer made =
-    answer_in_form (without_workers old.kept) (entry_of ask made.moment made.word answer) answer
+    answer_in_form old.state (entry_of ask made.moment made.word answer) answer
     made.turned.legal.0.answer
 
 -- the reply is the item's own
@@ -273,7 +267,7 @@ replies_own now reply = record {
 }
 
 -- the reply is the answer of the turn
-pub replies_answer : (old new : Server) (ask : Ask) (answer : Answer) → Makes old new ask answer
+pub replies_answer : (old new : Server) (ask : Ask) (answer : Answer) → MakesTurn old new ask answer
     → Replies old new (Asks ask) (reply_of answer)
 replies_answer old new ask answer made = record {
   history = entry_of ask made.moment made.word answer ∷ [];

@@ -1,26 +1,27 @@
 -- Bytes that are written in steps.
-use Rattle.std.proofs.Common.{ℕ, List, [], ◌++◌, refl, ap, sym, ◌∙◌, arith, append_assoc, length-append}
+use Rattle.std.proofs.Common.{◌≡◌, ℕ, List, [], ◌++◌, refl, ap, sym, ◌∙◌, arith, append_assoc, length-append}
 use Rattle.fk_io.specs.declared.fault.Ended.{Ended}
 use Rattle.fk_io.specs.declared.fault.Ended.TheVariants.{Closed, ReadFault, WriteFault, Spent, NoMemory}
+use Rattle.fk_io.specs.Content.{Written, Gained}
+use Rattle.fk_io.specs.Faults.{Rose}
 use Rattle.fk_io.proofs.Content.{gained_nothing, gained_both}
-use Rattle.fk_io.proofs.Faults.{on_then_rose}
 use Rattle.fk_server.specs.Session.{Begins, IsPartOf}
-use Rattle.fk_server.specs.Answering.{Written, Wrote, Starved, Stops}
+use Rattle.fk_server.specs.Answering.{BreaksOff, Wrote, Starved, Stops, StopsWriting}
 
 -- nothing was written
 pub wrote_nothing : (out : Written) → Wrote out out []
-wrote_nothing out = record { gained = gained_nothing out.held; later = omega arith }
+wrote_nothing out = record { gained = gained_nothing out.held; stays = refl }
 
 -- some bytes were written, and then more
 pub wrote_both : (old mid new : Written) (xs ys : List ℕ) → Wrote old mid xs → Wrote mid new ys → Wrote old new (xs ++ ys)
 wrote_both old mid new xs ys first second = record {
   gained = gained_both old.held mid.held new.held xs ys first.gained second.gained;
-  later = let before = first.later in let behind = second.later in omega arith;
+  stays = second.stays ∙ first.stays;
 }
 
 -- memory ran out before anything was written
 pub starved_at_once : (out : Written) (bytes : List ℕ) → Starved out out bytes []
-starved_at_once out bytes = record { begins = (bytes, refl); gained = gained_nothing out.held }
+starved_at_once out bytes = record { begins = (bytes, refl); gained = gained_nothing out.held; stays = refl }
 
 -- what begins a list begins it behind another one, too
 pub begins_behind : (xs front whole : List ℕ) → Begins front whole → Begins (xs ++ front) (xs ++ whole)
@@ -46,6 +47,23 @@ stopped_begins WriteFault old new bytes part stops = (stops.is_part.0, stops.is_
 stopped_begins Spent old new bytes part stops = absurd stops
 stopped_begins NoMemory old new bytes part stops = stops.begins
 
+pub stopped_gained : (ended : Ended) (old new : Written) (bytes part : List ℕ) → Stops ended old new bytes part
+    → Gained old.held part new.held
+stopped_gained Closed old new bytes part stops = absurd stops
+stopped_gained ReadFault old new bytes part stops = absurd stops
+stopped_gained WriteFault old new bytes part stops = stops.gained
+stopped_gained Spent old new bytes part stops = absurd stops
+stopped_gained NoMemory old new bytes part stops = stops.gained
+
+-- a count that stayed, and then rose, has risen
+pub rose_since : (before now later : ℕ) → now ≡ before → Rose now later → Rose before later
+rose_since before now later same rose = rw same at rose
+
+-- a write failed
+pub stops_at_write : (old new : Written) (bytes : List ℕ) → BreaksOff old new bytes
+    → StopsWriting WriteFault old new bytes
+stops_at_write old new bytes breaks = record { part = breaks.part; stops = breaks.broke }
+
 -- some bytes were written, and then a step gave up at more
 pub stops_behind : (ended : Ended) (old mid new : Written) (xs ys part : List ℕ)
     → Wrote old mid xs → Stops ended mid new ys part → Stops ended old new (xs ++ ys) (xs ++ part)
@@ -54,10 +72,11 @@ stops_behind ReadFault old mid new xs ys part first stops = stops
 stops_behind WriteFault old mid new xs ys part first stops = record {
   is_part = part_behind xs part ys stops.is_part;
   gained = gained_both old.held mid.held new.held xs part first.gained stops.gained;
-  rose = on_then_rose old.faults mid.faults new.faults first.later stops.rose;
+  rose = rose_since old.faults mid.faults new.faults first.stays stops.rose;
 }
 stops_behind Spent old mid new xs ys part first stops = stops
 stops_behind NoMemory old mid new xs ys part first stops = record {
   begins = begins_behind xs part ys stops.begins;
   gained = gained_both old.held mid.held new.held xs part first.gained stops.gained;
+  stays = stops.stays ∙ first.stays;
 }

@@ -1,35 +1,25 @@
 -- The steps of a session between two reads.
-use Rattle.std.specs.Prelude.{◌≡◌, ◌⊎◌, ℕ, ◌≤◌, List, [], ◌++◌, length, Option, None, option_to_list}
+use Rattle.std.specs.Prelude.{◌≡◌, ◌⊎◌, ℕ, List, [], ◌++◌, Option, None, option_to_list}
 use Rattle.fk_io.specs.declared.fault.Ended.{Ended}
 use Rattle.fk_io.specs.declared.fault.Ended.TheVariants.{Closed, ReadFault, WriteFault, Spent, NoMemory}
-use Rattle.fk_io.specs.Content.{Took, Gained}
+use Rattle.fk_io.specs.Content.{Written, Gained}
 use Rattle.fk_io.specs.Faults.{Rose}
 use Rattle.fk_frame.specs.declared.line_reader.Line.{Line}
 use Rattle.fk_model.specs.declared.entry.Entry.{Entry}
 use Rattle.fk_model.specs.declared.item.Item.{Item}
 use Rattle.fk_model.specs.declared.item.Phase.{Phase}
-use Rattle.fk_model.specs.declared.item.Phase.TheVariants.{Greeted}
 use Rattle.fk_model.specs.Script.{AreItemsOf}
-use Rattle.fk_model.specs.Out.{asks_of, out, output}
-use Rattle.fk_model.specs.Advance.{Advances, IsIdle}
+use Rattle.fk_model.specs.Out.{asks_of, out}
+use Rattle.fk_model.specs.Advance.{Advances}
 use Rattle.fk_server.specs.Turning.{Server, Turned, answers_in, asks_in}
-use Rattle.fk_server.specs.Session.{Setting, Begins, IsPartOf, IsPrompt}
-use Rattle.fk_server.specs.declared.session.TheConstants.{TAKEN_MAX}
+use Rattle.fk_server.specs.Session.{Begins, IsPartOf}
 
 -- ---- bytes
-
--- what an output tells: its bytes and its count of faults
-pub record Written : Type 0 where
-  pub held : Option (List ℕ)
-  pub faults : ℕ
-
-abbrev pub written : Option (List ℕ) → ℕ → Written
-written held faults = record { held = held; faults = faults }
 
 -- these bytes were written, all of them
 pub record Wrote (old new : Written) (bytes : List ℕ) : Type 0 where
   pub gained : Gained old.held bytes new.held
-  pub later : old.faults ≤ new.faults
+  pub stays : new.faults ≡ old.faults
 
 -- a write of these bytes failed behind this part of them
 pub record Broke (old new : Written) (bytes part : List ℕ) : Type 0 where
@@ -37,10 +27,16 @@ pub record Broke (old new : Written) (bytes part : List ℕ) : Type 0 where
   pub gained : Gained old.held part new.held
   pub rose : Rose old.faults new.faults
 
+-- and that part is one of them
+pub record BreaksOff (old new : Written) (bytes : List ℕ) : Type 0 where
+  pub part : List ℕ
+  pub broke : Broke old new bytes part
+
 -- memory ran out when this part of the bytes was written: none of them, some, or all
 pub record Starved (old new : Written) (bytes part : List ℕ) : Type 0 where
   pub begins : Begins part bytes
   pub gained : Gained old.held part new.held
+  pub stays : new.faults ≡ old.faults
 
 -- the step that was to write these bytes gave up behind this part of them
 abbrev pub Stops : Ended → Written → Written → List ℕ → List ℕ → Type 0
@@ -62,8 +58,8 @@ pub record Results : Type 0 where
   pub out : Written
   pub server : Server
 
-abbrev pub results : Option (List ℕ) → ℕ → Server → Results
-results held faults server = record { out = written held faults; server = server }
+abbrev pub results : Written → Server → Results
+results out server = record { out = out; server = server }
 
 -- these items were answered: a turn was made for each ask, and the replies are written
 pub record Gives (old new : Results) (items : List Item) : Type 0 where
@@ -105,43 +101,26 @@ StopsAtLine ended phase line old new =
 
 -- ---- the lines at hand
 
--- where the work on the lines at hand stands
-pub record Standing : Type 0 where
+-- what is at hand: how far the talk has come, the bytes that wait, and what was done so far
+pub record AtHand : Type 0 where
   pub phase : Phase
   pub lines : List ℕ
   pub done : Results
 
-abbrev pub standing : Phase → List ℕ → Results → Standing
-standing phase lines done = record { phase = phase; lines = lines; done = done }
+abbrev pub at_hand : Phase → List ℕ → Results → AtHand
+at_hand phase lines done = record { phase = phase; lines = lines; done = done }
 
 -- some lines at hand were answered
-pub record Answers (old new : Standing) : Type 0 where
+pub record Answers (old new : AtHand) : Type 0 where
   pub items : List Item
   pub advances : Advances old.phase old.lines items new.phase new.lines
   pub gives : Gives old.done new.done items
 
 -- the answering of the lines at hand stopped at one of them
-pub record StopsAnswering (ended : Ended) (old : Standing) (done : Results) : Type 0 where
+pub record StopsAnswering (ended : Ended) (old : AtHand) (done : Results) : Type 0 where
   pub answered : List Item
   pub begun : Option Item
   pub phase : Phase
   pub rest : List ℕ
   pub advances : Advances old.phase old.lines (answered ++ option_to_list begun) phase rest
   pub stops : StopsGiving ended old.done done answered begun
-
--- The session stands between two reads: it took these bytes, and answered them all.
-pub record Stands (old now : Setting) (phase : Phase) (lines : List ℕ) (count : ℕ) : Type 0 where
-  pub taken : List ℕ
-  pub items : List Item
-  pub history : List Entry
-  pub took : Took old.left taken now.left
-  pub counted : length taken ≡ count
-  pub within : count ≤ TAKEN_MAX
-  pub advances : Advances Greeted taken items phase lines
-  pub idle : IsIdle phase lines
-  pub asks : asks_in history ≡ asks_of items
-  pub turned : Turned old.server now.server history
-  pub gained : Gained old.held (output items (answers_in history)) now.held
-  pub prompt : IsPrompt taken history (output items (answers_in history))
-  pub reads_later : old.read_faults ≤ now.read_faults
-  pub writes_later : old.write_faults ≤ now.write_faults

@@ -11,11 +11,11 @@ pub record Grows (text : List ℕ) (old new : ReadBatch) : Type 0 where
   pub element : Element
   pub is_read : IsElement text element
   pub jobs : new.jobs.items ≡ old.jobs.items ++ jobs_among (element ∷ [])
-  pub told : members_view new.refusals.entries ≡ refusals (element ∷ []) (members_view old.refusals.entries)
+  pub reasons : members_view new.refusals.entries ≡ refusals (element ∷ []) (members_view old.refusals.entries)
 
 -- the batch is what was read at these places of a text
 pub record IsReadAs (text : List ℕ) (spans : List Span) (batch : ReadBatch) : Type 0 where
   pub elements : List Element
   pub are_read : AreElements text spans elements
   pub jobs : batch.jobs.items ≡ jobs_among elements
-  pub told : members_view batch.refusals.entries ≡ refusals elements no_members
+  pub reasons : members_view batch.refusals.entries ≡ refusals elements no_members

@@ -2,7 +2,7 @@
 use Rattle.std.specs.Prelude.{◌≡◌, ◌⊎◌, ℕ, ◌<◌, ◌≤◌, ◌^◌, List, [], ◌++◌, length, drop, Option, option_to_list}
 use Rattle.fk_io.specs.declared.fault.Ended.{Ended}
 use Rattle.fk_io.specs.declared.fault.Ended.TheVariants.{Closed, ReadFault, WriteFault, Spent, NoMemory}
-use Rattle.fk_io.specs.Content.{Took, Gained, IsAtEnd}
+use Rattle.fk_io.specs.Content.{Supply, Written, Took, Gained, IsAtEnd}
 use Rattle.fk_io.specs.Faults.{Rose}
 use Rattle.fk_model.specs.declared.entry.Entry.{Entry}
 use Rattle.fk_model.specs.declared.item.Item.{Item}
@@ -11,8 +11,8 @@ use Rattle.fk_model.specs.Out.{asks_of, out, output}
 use Rattle.fk_server.specs.Turning.{Server, Turned, answers_in, asks_in}
 
 -- the most bytes that one read asks for
-abbrev pub piece_length : ℕ
-piece_length = 4096
+abbrev pub most_read : ℕ
+most_read = 4096
 
 -- the most bytes that are taken from one connection
 abbrev pub most_taken : ℕ
@@ -20,20 +20,12 @@ most_taken = 2 ^ 62
 
 -- what a session's input and output tell, and what its turns are made of
 pub record Setting : Type 0 where
-  pub left : Option (List ℕ)
-  pub read_faults : ℕ
-  pub held : Option (List ℕ)
-  pub write_faults : ℕ
+  pub input : Supply
+  pub out : Written
   pub server : Server
 
-abbrev pub setting : Option (List ℕ) → ℕ → Option (List ℕ) → ℕ → Server → Setting
-setting left read_faults held write_faults server = record {
-  left = left;
-  read_faults = read_faults;
-  held = held;
-  write_faults = write_faults;
-  server = server;
-}
+abbrev pub setting : Supply → Written → Server → Setting
+setting input out server = record { input = input; out = out; server = server }
 
 -- one list begins another, or is all of it
 abbrev pub Begins : List ℕ → List ℕ → Type 0
@@ -64,8 +56,8 @@ pub record IsAnsweredSoFar (items : List Item) (history : List Entry) (written :
   pub whole : Begins (out answered (answers_in history)) (behind_greeting written)
   pub no_more : Begins written (output (answered ++ option_to_list begun) (answers_in history))
 
--- Some bytes that don't end the talk were taken, and then at most one piece: a turn was made for
--- each ask of those before, and all that is due to them was written.
+-- Bytes were taken that don't end the talk, and then one piece more. A turn was made for each ask of
+-- the bytes before the piece, and all that is due to the whole lines in them was written.
 pub record IsBehindByPiece (taken : List ℕ) (history : List Entry) (written : List ℕ) : Type 0 where
   pub before : List ℕ
   pub piece : List ℕ
@@ -73,43 +65,58 @@ pub record IsBehindByPiece (taken : List ℕ) (history : List Entry) (written : 
   pub made : List Entry
   pub later : List Entry
   pub all : taken ≡ before ++ piece
-  pub short : length piece ≤ piece_length
+  pub some : 0 < length piece
+  pub short : length piece ≤ most_read
   pub going : ¬ IsOver before
   pub script : IsScript before items
   pub turns : history ≡ made ++ later
   pub asks : asks_in made ≡ asks_of items
   pub replies : Begins (output items (answers_in made)) written
 
--- At most the last piece of the bytes taken may be without its answer, and the talk wasn't over
--- before that piece: either nothing was taken, or the session is behind by a piece at most.
+-- All that is due to the whole lines in the bytes before the last piece was written, and none of those
+-- ends the talk; or nothing was taken.
 abbrev pub IsPrompt : List ℕ → List Entry → List ℕ → Type 0
 IsPrompt taken history written = (taken ≡ []) ⊎ IsBehindByPiece taken history written
 
 -- more might have been taken, and nothing was to come, where that is told
 abbrev pub IsReadToEnd : Setting → List ℕ → Type 0
-IsReadToEnd new taken = (length taken < most_taken) × IsAtEnd new.left
+IsReadToEnd new taken = (length taken < most_taken) × IsAtEnd new.input.left
 
 -- what each end says
-abbrev pub HasEnded :
-    Ended → Setting → Setting → List ℕ → List Item → List Entry → List ℕ → Type 0
+abbrev pub HasEnded : Ended → Setting → List ℕ → List Item → List Entry → List ℕ → Type 0
 -- all was answered, and the client ended the talk or has no more to say
-HasEnded Closed old new taken items history written =
+HasEnded Closed new taken items history written =
     IsAnswered items history written
     × (IsOver taken ⊎ (¬ IsOver taken × IsReadToEnd new taken))
 -- all was answered, and the next read failed
-HasEnded ReadFault old new taken items history written =
+HasEnded ReadFault new taken items history written =
     IsAnswered items history written × ¬ IsOver taken × (length taken < most_taken)
-    × Rose old.read_faults new.read_faults
 -- a write failed: the greeting and the replies were written up to some byte, and not to their end
-HasEnded WriteFault old new taken items history written =
+HasEnded WriteFault new taken items history written =
     IsPartOf written (output items (answers_in history)) × IsAnsweredSoFar items history written
-    × Rose old.write_faults new.write_faults
 -- all was answered, and no more bytes may be read
-HasEnded Spent old new taken items history written =
+HasEnded Spent new taken items history written =
     IsAnswered items history written × ¬ IsOver taken × (length taken ≡ most_taken)
--- memory ran out: the greeting and the replies were written up to some byte
-HasEnded NoMemory old new taken items history written =
+-- memory ran out at the lines of a piece that was read: the greeting and the replies were written up
+-- to some byte
+HasEnded NoMemory new taken items history written =
     Begins written (output items (answers_in history)) × IsAnsweredSoFar items history written
+    × IsBehindByPiece taken history written
+
+-- no read failed, and no write
+abbrev pub ReadsWell : Setting → Setting → Type 0
+ReadsWell old new = new.input.faults ≡ old.input.faults
+
+abbrev pub WritesWell : Setting → Setting → Type 0
+WritesWell old new = new.out.faults ≡ old.out.faults
+
+-- a session that ended by a fault had that one, and any other session had none
+abbrev pub HasFaults : Ended → Setting → Setting → Type 0
+HasFaults Closed old new = ReadsWell old new × WritesWell old new
+HasFaults ReadFault old new = Rose old.input.faults new.input.faults × WritesWell old new
+HasFaults WriteFault old new = ReadsWell old new × Rose old.out.faults new.out.faults
+HasFaults Spent old new = ReadsWell old new × WritesWell old new
+HasFaults NoMemory old new = ReadsWell old new × WritesWell old new
 
 -- the session took these bytes, which give these items, had these turns made, wrote those bytes,
 -- and ended so
@@ -117,13 +124,14 @@ pub record Serves
     (ended : Ended) (old new : Setting)
     (taken : List ℕ) (items : List Item) (history : List Entry) (written : List ℕ)
     : Type 0 where
-  pub took : Took old.left taken new.left
+  pub took : Took old.input.left taken new.input.left
   pub script : IsScript taken items
   pub turned : Turned old.server new.server history
-  pub gained : Gained old.held written new.held
+  pub gained : Gained old.out.held written new.out.held
   pub within : length taken ≤ most_taken
   pub prompt : IsPrompt taken history written
-  pub outcome : HasEnded ended old new taken items history written
+  pub faults : HasFaults ended old new
+  pub outcome : HasEnded ended new taken items history written
 
 -- there was such a session
 abbrev pub IsSession : Ended → Setting → Setting → Type 0

@@ -12,18 +12,18 @@ use Rattle.fk_model.specs.declared.item.Item.TheVariants.{Own, Asks}
 use Rattle.fk_model.specs.declared.move_.Move.{Move}
 use Rattle.fk_model.specs.declared.move_.Move.TheVariants.{Totals}
 use Rattle.fk_model.specs.Limits.{greatest_next}
-use Rattle.fk_model.specs.State.{KeptState, without_workers}
+use Rattle.fk_model.specs.State.{State}
 use Rattle.fk_model.specs.Out.{asks_of, out}
 use Rattle.fk_model.specs.History.{state_after, IsLegal}
 
--- what turns are made of: the kept state, and what the clock and the dice tell
+-- what turns are made of: the state, and what the clock and the dice tell
 pub record Server : Type 0 where
-  pub kept : KeptState
+  pub state : State
   pub moments : Option (List ℕ)
   pub words : Option (List ℕ)
 
-abbrev pub server : KeptState → Option (List ℕ) → Option (List ℕ) → Server
-server kept moments words = record { kept = kept; moments = moments; words = words }
+abbrev pub server : State → Option (List ℕ) → Option (List ℕ) → Server
+server state moments words = record { state = state; moments = moments; words = words }
 
 -- ---- a history
 
@@ -41,14 +41,14 @@ abbrev pub words_in : List Entry → List ℕ
 words_in history = map (λ entry. entry.told.word) history
 
 -- Turns were made, and this is their history: each took one moment of the clock and one word of the
--- dice, in order, it is legal from the kept state before it, without a worker, and leads to the one
--- behind it. All turns are of one seat.
+-- dice, in order, it is legal from the state before it, and leads to the one behind it. All turns are
+-- of one seat.
 pub record Turned (old new : Server) (history : List Entry) : Type 0 where
   pub seats : All (λ entry. entry.seat ≡ 0) history
   pub moments : Gave old.moments (moments_in history) new.moments
   pub words : Gave old.words (words_in history) new.words
-  pub legal : IsLegal (without_workers old.kept) history
-  pub leads : state_after (without_workers old.kept) history ≡ without_workers new.kept
+  pub legal : IsLegal old.state history
+  pub leads : state_after old.state history ≡ new.state
 
 -- ---- one turn
 
@@ -62,7 +62,7 @@ entry_of ask moment word answer = record {
 }
 
 -- one turn was made, at some moment and with some word: this was asked, and this answered
-pub record Makes (old new : Server) (ask : Ask) (answer : Answer) : Type 0 where
+pub record MakesTurn (old new : Server) (ask : Ask) (answer : Answer) : Type 0 where
   pub moment : ℕ
   pub word : ℕ
   pub turned : Turned old new (entry_of ask moment word answer ∷ [])

@@ -1,36 +1,48 @@
-ghost use Rattle.std.specs.Prelude.{◌≡◌, [], ◌∷◌, IfErr, IfSome, OnOk, Some, option_to_list};
+ghost use Rattle.std.specs.Prelude.{◌≡◌, [], ◌∷◌, IfErr, IfSome, OnErr, OnOk, Some, option_to_list};
 ghost use Rattle.fk_frame.specs.declared.line_reader.Line.TheVariants.{Whole};
 ghost use Rattle.fk_frame.specs.Replies.{IsWellFormed, reply_bytes};
 ghost use Rattle.fk_model.specs.Advance.{IsIdle};
-ghost use Rattle.fk_model.specs.Between.{IsAboveAll};
 ghost use Rattle.fk_model.specs.Script.{phase_after, too_long};
-ghost use Rattle.fk_server.specs.Turning.{IsInForm, server};
-ghost use Rattle.fk_server.specs.Answering.{results, standing, written, Wrote, Answers, Gives, GivesLine, StopsAnswering, StopsAtItem, StopsAtLine, StopsWriting};
+ghost use Rattle.fk_server.specs.Turning.{IsInForm};
+ghost use Rattle.fk_server.specs.Answering.{at_hand, results, Answers, BreaksOff, Gives, GivesLine, StopsAnswering, StopsAtItem, StopsAtLine, StopsWriting, Wrote};
 
+use crate::memory_store::MemoryStore;
+use crate::reply::reply_to;
 use crate::talk::{next_phase, read_item, refuse_long_line};
-use crate::turn::reply_to;
-use fk_core::Tables;
 use fk_frame::{Line, LineReader, Reply, write_reply};
-use fk_io::{Clock, Dice, Ended, Sink};
+use fk_io::{Clock, Dice, Ended, Failed, Sink};
 use fk_model::{Item, Phase};
 use std::alloc::Global;
 
 /// Writes all of the bytes, or up to where a write fails.
-pub fn write_all<K: Sink>(output: &mut K, bytes: &[u8]) -> Result<(), Ended>
-    ensures ok { OnOk result (Wrote (written (K.held output.old) (K.write_faults output.old))
-        (written (K.held output.new) (K.write_faults output.new)) bytes.now) }
-    ensures err { IfErr result (λ ended. StopsWriting ended
-        (written (K.held output.old) (K.write_faults output.old))
-        (written (K.held output.new) (K.write_faults output.new)) bytes.now) }
+pub fn write_all<K: Sink>(output: &mut K, bytes: &[u8]) -> Result<(), Failed>
+    ensures ok { OnOk result (Wrote (K.written output.old) (K.written output.new) bytes.now) }
+    ensures err { OnErr result
+        (BreaksOff (K.written output.old) (K.written output.new) bytes.now) }
 {
     let mut at = 0;
     while at < bytes.len() {
         match output.put(bytes.split_at(at).1) {
             Ok(count) => at += count,
-            Err(_) => return Err(Ended::WriteFault),
+            Err(failed) => return Err(failed),
         }
     }
     Ok(())
+}
+
+/// Writes a reply.
+fn write_answer<K: Sink>(alloc: Global, reply: &Reply, output: &mut K) -> Result<(), Ended>
+    requires { IsWellFormed reply.now }
+    ensures ok { OnOk result
+        (Wrote (K.written output.old) (K.written output.new) (reply_bytes reply.now)) }
+    ensures err { IfErr result (λ ended.
+        StopsWriting ended (K.written output.old) (K.written output.new) (reply_bytes reply.now)) }
+{
+    let bytes = write_reply(alloc, reply)?;
+    match write_all(output, bytes.bytes()) {
+        Ok(()) => Ok(()),
+        Err(_) => Err(Ended::WriteFault),
+    }
 }
 
 /// Does what a line asks for: a turn is made where it asks for one, and then the reply is written.
@@ -39,41 +51,18 @@ fn answer<K: Sink, C: Clock, J: Dice>(
     alloc: Global,
     item: Item,
     output: &mut K,
-    tables: &mut Tables,
-    clock: &mut C,
-    dice: &mut J,
+    store: &mut MemoryStore<C, J>,
 ) -> Result<(), Ended>
-    requires form { IsInForm item }
-    requires above { IsAboveAll tables.old.kept.next tables.old.kept.rows }
+    requires { IsInForm item }
     ensures ok { OnOk result (Gives
-        (results (K.held output.old) (K.write_faults output.old)
-        (server tables.old.kept (C.moments clock.old) (J.words dice.old)))
-        (results (K.held output.new) (K.write_faults output.new)
-        (server tables.new.kept (C.moments clock.new) (J.words dice.new)))
-        (item ∷ [])) }
+        (results (K.written output.old) store.old.server)
+        (results (K.written output.new) store.new.server) (item ∷ [])) }
     ensures err { IfErr result (λ ended. StopsAtItem ended
-        (results (K.held output.old) (K.write_faults output.old)
-        (server tables.old.kept (C.moments clock.old) (J.words dice.old)))
-        (results (K.held output.new) (K.write_faults output.new)
-        (server tables.new.kept (C.moments clock.new) (J.words dice.new)))
-        (Some item)) }
-    ensures above { IsAboveAll tables.new.kept.next tables.new.kept.rows }
+        (results (K.written output.old) store.old.server)
+        (results (K.written output.new) store.new.server) (Some item)) }
 {
-    let reply = reply_to(alloc, item, tables, clock, dice)?;
+    let reply = reply_to(alloc, item, store)?;
     write_answer(alloc, &reply, output)
-}
-
-/// Writes a reply.
-fn write_answer<K: Sink>(alloc: Global, reply: &Reply, output: &mut K) -> Result<(), Ended>
-    requires { IsWellFormed reply.now }
-    ensures ok { OnOk result (Wrote (written (K.held output.old) (K.write_faults output.old))
-        (written (K.held output.new) (K.write_faults output.new)) (reply_bytes reply.now)) }
-    ensures err { IfErr result (λ ended. StopsWriting ended
-        (written (K.held output.old) (K.write_faults output.old))
-        (written (K.held output.new) (K.write_faults output.new)) (reply_bytes reply.now)) }
-{
-    let bytes = write_reply(alloc, reply)?;
-    write_all(output, bytes.bytes())
 }
 
 /// Does what a line asks for, if it asks for anything.
@@ -81,75 +70,20 @@ fn answer_any<K: Sink, C: Clock, J: Dice>(
     alloc: Global,
     item: Option<Item>,
     output: &mut K,
-    tables: &mut Tables,
-    clock: &mut C,
-    dice: &mut J,
+    store: &mut MemoryStore<C, J>,
 ) -> Result<(), Ended>
-    requires form { IfSome item IsInForm }
-    requires above { IsAboveAll tables.old.kept.next tables.old.kept.rows }
+    requires { IfSome item IsInForm }
     ensures ok { OnOk result (Gives
-        (results (K.held output.old) (K.write_faults output.old)
-        (server tables.old.kept (C.moments clock.old) (J.words dice.old)))
-        (results (K.held output.new) (K.write_faults output.new)
-        (server tables.new.kept (C.moments clock.new) (J.words dice.new)))
-        (option_to_list item)) }
+        (results (K.written output.old) store.old.server)
+        (results (K.written output.new) store.new.server) (option_to_list item)) }
     ensures err { IfErr result (λ ended. StopsAtItem ended
-        (results (K.held output.old) (K.write_faults output.old)
-        (server tables.old.kept (C.moments clock.old) (J.words dice.old)))
-        (results (K.held output.new) (K.write_faults output.new)
-        (server tables.new.kept (C.moments clock.new) (J.words dice.new)))
-        item) }
-    ensures above { IsAboveAll tables.new.kept.next tables.new.kept.rows }
+        (results (K.written output.old) store.old.server)
+        (results (K.written output.new) store.new.server) item) }
 {
     match item {
-        Some(item) => answer(alloc, item, output, tables, clock, dice),
+        Some(item) => answer(alloc, item, output, store),
         None => Ok(()),
     }
-}
-
-/// Answers the lines of the bytes at hand, in order, up to END or to one that is too long.
-pub fn serve_lines<K: Sink, C: Clock, J: Dice>(
-    alloc: Global,
-    phase: &mut Phase,
-    lines: &mut LineReader,
-    output: &mut K,
-    tables: &mut Tables,
-    clock: &mut C,
-    dice: &mut J,
-) -> Result<(), Ended>
-    requires above { IsAboveAll tables.old.kept.next tables.old.kept.rows }
-    ensures ok { OnOk result (Answers
-        (standing phase.old lines.old
-        (results (K.held output.old) (K.write_faults output.old)
-        (server tables.old.kept (C.moments clock.old) (J.words dice.old))))
-        (standing phase.new lines.new
-        (results (K.held output.new) (K.write_faults output.new)
-        (server tables.new.kept (C.moments clock.new) (J.words dice.new))))) }
-    ensures idle { OnOk result (IsIdle phase.new lines.new) }
-    ensures err { IfErr result (λ ended. StopsAnswering ended
-        (standing phase.old lines.old
-        (results (K.held output.old) (K.write_faults output.old)
-        (server tables.old.kept (C.moments clock.old) (J.words dice.old))))
-        (results (K.held output.new) (K.write_faults output.new)
-        (server tables.new.kept (C.moments clock.new) (J.words dice.new)))) }
-    ensures above { IsAboveAll tables.new.kept.next tables.new.kept.rows }
-{
-    'lines: while *phase != Phase::Over {
-        match lines.next()? {
-            Line::Need => return Ok(()),
-            Line::TooLong => return end_at_long_line(alloc, phase, output, tables, clock, dice),
-            Line::Whole(line) => serve_line(
-                alloc,
-                phase,
-                line.bytes(),
-                output,
-                tables,
-                clock,
-                dice,
-            )?,
-        }
-    }
-    Ok(())
 }
 
 /// Answers one whole line.
@@ -158,26 +92,18 @@ fn serve_line<K: Sink, C: Clock, J: Dice>(
     phase: &mut Phase,
     line: &[u8],
     output: &mut K,
-    tables: &mut Tables,
-    clock: &mut C,
-    dice: &mut J,
+    store: &mut MemoryStore<C, J>,
 ) -> Result<(), Ended>
-    requires above { IsAboveAll tables.old.kept.next tables.old.kept.rows }
     ensures phase { OnOk result (phase.new ≡ phase_after phase.old (Whole line.now)) }
     ensures ok { OnOk result (GivesLine phase.old (Whole line.now)
-        (results (K.held output.old) (K.write_faults output.old)
-        (server tables.old.kept (C.moments clock.old) (J.words dice.old)))
-        (results (K.held output.new) (K.write_faults output.new)
-        (server tables.new.kept (C.moments clock.new) (J.words dice.new)))) }
+        (results (K.written output.old) store.old.server)
+        (results (K.written output.new) store.new.server)) }
     ensures err { IfErr result (λ ended. StopsAtLine ended phase.old (Whole line.now)
-        (results (K.held output.old) (K.write_faults output.old)
-        (server tables.old.kept (C.moments clock.old) (J.words dice.old)))
-        (results (K.held output.new) (K.write_faults output.new)
-        (server tables.new.kept (C.moments clock.new) (J.words dice.new)))) }
-    ensures above { IsAboveAll tables.new.kept.next tables.new.kept.rows }
+        (results (K.written output.old) store.old.server)
+        (results (K.written output.new) store.new.server)) }
 {
     let item = read_item(alloc, *phase, line)?;
-    answer_any(alloc, item, output, tables, clock, dice)?;
+    answer_any(alloc, item, output, store)?;
     *phase = next_phase(*phase, line);
     Ok(())
 }
@@ -187,27 +113,43 @@ fn end_at_long_line<K: Sink, C: Clock, J: Dice>(
     alloc: Global,
     phase: &mut Phase,
     output: &mut K,
-    tables: &mut Tables,
-    clock: &mut C,
-    dice: &mut J,
+    store: &mut MemoryStore<C, J>,
 ) -> Result<(), Ended>
-    requires above { IsAboveAll tables.old.kept.next tables.old.kept.rows }
     ensures phase { OnOk result (phase.new ≡ Phase.Over) }
     ensures ok { OnOk result (Gives
-        (results (K.held output.old) (K.write_faults output.old)
-        (server tables.old.kept (C.moments clock.old) (J.words dice.old)))
-        (results (K.held output.new) (K.write_faults output.new)
-        (server tables.new.kept (C.moments clock.new) (J.words dice.new)))
-        (too_long ∷ [])) }
+        (results (K.written output.old) store.old.server)
+        (results (K.written output.new) store.new.server) (too_long ∷ [])) }
     ensures err { IfErr result (λ ended. StopsAtItem ended
-        (results (K.held output.old) (K.write_faults output.old)
-        (server tables.old.kept (C.moments clock.old) (J.words dice.old)))
-        (results (K.held output.new) (K.write_faults output.new)
-        (server tables.new.kept (C.moments clock.new) (J.words dice.new)))
-        (Some too_long)) }
-    ensures above { IsAboveAll tables.new.kept.next tables.new.kept.rows }
+        (results (K.written output.old) store.old.server)
+        (results (K.written output.new) store.new.server) (Some too_long)) }
 {
-    answer(alloc, refuse_long_line(alloc), output, tables, clock, dice)?;
+    answer(alloc, refuse_long_line(alloc), output, store)?;
     *phase = Phase::Over;
+    Ok(())
+}
+
+/// Answers the lines of the bytes at hand, in order, up to END or to one that is too long.
+pub fn serve_lines<K: Sink, C: Clock, J: Dice>(
+    alloc: Global,
+    phase: &mut Phase,
+    lines: &mut LineReader,
+    output: &mut K,
+    store: &mut MemoryStore<C, J>,
+) -> Result<(), Ended>
+    ensures ok { OnOk result (Answers
+        (at_hand phase.old lines.old (results (K.written output.old) store.old.server))
+        (at_hand phase.new lines.new (results (K.written output.new) store.new.server))) }
+    ensures idle { OnOk result (IsIdle phase.new lines.new) }
+    ensures err { IfErr result (λ ended. StopsAnswering ended
+        (at_hand phase.old lines.old (results (K.written output.old) store.old.server))
+        (results (K.written output.new) store.new.server)) }
+{
+    'lines: while *phase != Phase::Over {
+        match lines.next()? {
+            Line::Need => return Ok(()),
+            Line::TooLong => return end_at_long_line(alloc, phase, output, store),
+            Line::Whole(line) => serve_line(alloc, phase, line.bytes(), output, store)?,
+        }
+    }
     Ok(())
 }

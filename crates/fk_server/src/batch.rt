@@ -33,7 +33,7 @@ pub(crate) fn push_batch(alloc: Global, arguments: &[u8]) -> Result<Item, AllocE
     ensures form { IfOk result IsInForm }
 {
     match scan_array(alloc, arguments) {
-        Ok(spans) => tell(alloc, read_elements(alloc, arguments, spans.as_slice())?),
+        Ok(spans) => batch_item(alloc, read_elements(alloc, arguments, spans.as_slice())?),
         Err(JsonFault::Syntax(_)) => Ok(refuse(alloc, b"ERR Bad JSON")),
         Err(JsonFault::TooDeep(_)) => Ok(refuse(alloc, b"ERR JSON too deep")),
         Err(JsonFault::NoMemory) => Err(AllocError),
@@ -41,7 +41,7 @@ pub(crate) fn push_batch(alloc: Global, arguments: &[u8]) -> Result<Item, AllocE
 }
 
 /// What a batch asks for: its jobs are pushed, and why its refused elements were is told as an object.
-fn tell(alloc: Global, batch: ReadBatch) -> Result<Item, AllocError>
+fn batch_item(alloc: Global, batch: ReadBatch) -> Result<Item, AllocError>
     requires { members_have_float (members_view batch.refusals.entries) ≡ false }
     ensures item { IfOk result (λ item. item ≡ Asks (PushBatch batch.jobs.items
         (compact_text (object (members_view batch.refusals.entries))))) }

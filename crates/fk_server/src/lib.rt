@@ -5,20 +5,15 @@ mod ack;
 mod answer;
 mod batch;
 mod command;
-#[cfg(test)]
-mod dialogue_tests;
 mod key;
+mod memory_store;
 mod names;
-#[cfg(test)]
-mod payload_tests;
 mod piped;
 mod refusal;
+mod reply;
 mod session;
 mod talk;
-#[cfg(test)]
-mod tests;
 mod turn;
-#[cfg(test)]
-mod turn_tests;
 
+pub use memory_store::MemoryStore;
 pub use piped::pipe;

@@ -3,20 +3,16 @@ ghost use Rattle.fk_io.specs.declared.fault.Ended.TheVariants.{ReadFault};
 ghost use Rattle.fk_io.specs.Content.{Took, IsAtEnd};
 ghost use Rattle.fk_io.specs.Faults.{Rose};
 ghost use Rattle.fk_model.specs.Advance.{IsIdle};
-ghost use Rattle.fk_model.specs.Between.{IsAboveAll};
-ghost use Rattle.fk_server.specs.Turning.{server};
 ghost use Rattle.fk_server.specs.Session.{Setting, setting, IsSession};
-ghost use Rattle.fk_server.specs.Answering.{results, standing, Answers, StopsAnswering, Stands};
+ghost use Rattle.fk_server.specs.Answering.{at_hand, results, Answers, StopsAnswering};
+ghost use Rattle.fk_server.specs.BetweenReads.{IsBetweenReads};
 
 use crate::answer::{serve_lines, write_all};
-use fk_core::Tables;
+use crate::memory_store::MemoryStore;
 use fk_frame::LineReader;
-use fk_io::{Clock, Dice, Ended, Sink, Source};
+use fk_io::{Clock, Dice, Ended, PIECE_MAX, Sink, Source};
 use fk_model::Phase;
 use std::alloc::Global;
-
-/// The most bytes that one read asks for.
-pub const PIECE: usize = 4096;
 
 /// The most bytes that are taken from one connection.
 pub const TAKEN_MAX: u64 = 1 << 62;
@@ -36,27 +32,19 @@ struct Session {
 }
 
 /// Serves one connection: the greeting, and then for each piece that is read the replies that are
-/// due behind it, before the next is read.
+/// due to the lines that end in it, before the next is read.
 pub fn serve<S: Source, K: Sink, C: Clock, J: Dice>(
     alloc: Global,
     input: &mut S,
     output: &mut K,
-    tables: &mut Tables,
-    clock: &mut C,
-    dice: &mut J,
+    store: &mut MemoryStore<C, J>,
 ) -> Ended
-    requires above { IsAboveAll tables.old.kept.next tables.old.kept.rows }
-    ensures session { IsSession result
-        (setting (S.left input.old) (S.read_faults input.old)
-        (K.held output.old) (K.write_faults output.old)
-        (server tables.old.kept (C.moments clock.old) (J.words dice.old)))
-        (setting (S.left input.new) (S.read_faults input.new)
-        (K.held output.new) (K.write_faults output.new)
-        (server tables.new.kept (C.moments clock.new) (J.words dice.new))) }
-    ensures above { IsAboveAll tables.new.kept.next tables.new.kept.rows }
+    ensures { IsSession result
+        (setting (S.supply input.old) (K.written output.old) store.old.server)
+        (setting (S.supply input.new) (K.written output.new) store.new.server) }
 {
-    if let Err(ended) = write_all(output, GREETING) {
-        return ended;
+    if write_all(output, GREETING).is_err() {
+        return Ended::WriteFault;
     }
     let mut session = Session {
         phase: Phase::Greeted,
@@ -64,7 +52,7 @@ pub fn serve<S: Source, K: Sink, C: Clock, J: Dice>(
         taken: 0,
     };
     'pieces: while session.phase != Phase::Over {
-        if let Err(ended) = serve_piece(alloc, &mut session, input, output, tables, clock, dice) {
+        if let Err(ended) = serve_piece(alloc, &mut session, input, output, store) {
             return ended;
         }
     }
@@ -77,40 +65,26 @@ fn serve_piece<S: Source, K: Sink, C: Clock, J: Dice>(
     session: &mut Session,
     input: &mut S,
     output: &mut K,
-    tables: &mut Tables,
-    clock: &mut C,
-    dice: &mut J,
+    store: &mut MemoryStore<C, J>,
 ) -> Result<(), Ended>
-    requires above { IsAboveAll tables.old.kept.next tables.old.kept.rows }
-    requires going { session.old.phase ≢ Phase.Over }
-    ensures stands { (first : Setting) → Stands first
-        (setting (S.left input.old) (S.read_faults input.old)
-        (K.held output.old) (K.write_faults output.old)
-        (server tables.old.kept (C.moments clock.old) (J.words dice.old)))
-        session.old.phase session.old.lines session.old.taken
-        → MatchResult result
-        (λ _. Stands first
-        (setting (S.left input.new) (S.read_faults input.new)
-        (K.held output.new) (K.write_faults output.new)
-        (server tables.new.kept (C.moments clock.new) (J.words dice.new)))
-        session.new.phase session.new.lines session.new.taken)
-        (λ ended. IsSession ended first
-        (setting (S.left input.new) (S.read_faults input.new)
-        (K.held output.new) (K.write_faults output.new)
-        (server tables.new.kept (C.moments clock.new) (J.words dice.new)))) }
+    requires { session.old.phase ≢ Phase.Over }
+    ensures served { (first : Setting) → IsBetweenReads first
+        (setting (S.supply input.old) (K.written output.old) store.old.server) session.old
+        → let now = setting (S.supply input.new) (K.written output.new) store.new.server in
+        MatchResult result
+        (λ _. IsBetweenReads first now session.new) (λ ended. IsSession ended first now) }
     ensures goes_on { OnOk result (session.old.taken < session.new.taken) }
     ensures within { OnOk result (session.new.taken ≤ TAKEN_MAX) }
-    ensures above { IsAboveAll tables.new.kept.next tables.new.kept.rows }
 {
     if session.taken >= TAKEN_MAX {
         return Err(Ended::Spent);
     }
-    let mut piece = [0; PIECE];
+    let mut piece = [0; PIECE_MAX];
     let count = read_piece(input, &mut piece, TAKEN_MAX - session.taken)?;
     if count == 0 {
         return Err(Ended::Closed);
     }
-    answer_piece(alloc, session, &piece[..count], output, tables, clock, dice)
+    answer_piece(alloc, session, &piece[..count], output, store)
 }
 
 /// Reads the next bytes into the piece: at most as many as it holds, and as there is room for.
@@ -119,12 +93,12 @@ fn read_piece<S: Source>(input: &mut S, piece: &mut [u8], room: u64) -> Result<u
     requires room { 0 < room }
     ensures count { IfOk result (λ count. (count ≤ length piece.new) × (count ≤ room)) }
     ensures took { IfOk result (λ count.
-        Took (S.left input.old) (take count piece.new) (S.left input.new)) }
-    ensures end { result ≡ Ok 0 → IsAtEnd (S.left input.old) }
-    ensures later { S.read_faults input.old ≤ S.read_faults input.new }
+        Took (S.supply input.old).left (take count piece.new) (S.supply input.new).left) }
+    ensures end { result ≡ Ok 0 → IsAtEnd (S.supply input.old).left }
+    ensures stays { OnOk result ((S.supply input.new).faults ≡ (S.supply input.old).faults) }
     ensures err { IfErr result (λ ended. (ended ≡ ReadFault)
-        × Rose (S.read_faults input.old) (S.read_faults input.new)) }
-    ensures same { OnErr result (S.left input.new ≡ S.left input.old) }
+        × Rose (S.supply input.old).faults (S.supply input.new).faults) }
+    ensures same { OnErr result ((S.supply input.new).left ≡ (S.supply input.old).left) }
 {
     let asked = room.min(piece.len() as u64) as usize;
     match input.take(&mut piece[..asked]) {
@@ -139,28 +113,20 @@ fn answer_piece<K: Sink, C: Clock, J: Dice>(
     session: &mut Session,
     piece: &[u8],
     output: &mut K,
-    tables: &mut Tables,
-    clock: &mut C,
-    dice: &mut J,
+    store: &mut MemoryStore<C, J>,
 ) -> Result<(), Ended>
-    requires above { IsAboveAll tables.old.kept.next tables.old.kept.rows }
-    requires room { session.old.taken + length piece.now ≤ TAKEN_MAX }
+    requires { session.old.taken + length piece.now ≤ TAKEN_MAX }
     ensures ok { OnOk result (Answers
-        (standing session.old.phase (session.old.lines ++ piece.now)
-        (results (K.held output.old) (K.write_faults output.old)
-        (server tables.old.kept (C.moments clock.old) (J.words dice.old))))
-        (standing session.new.phase session.new.lines
-        (results (K.held output.new) (K.write_faults output.new)
-        (server tables.new.kept (C.moments clock.new) (J.words dice.new))))) }
+        (at_hand session.old.phase (session.old.lines ++ piece.now)
+        (results (K.written output.old) store.old.server))
+        (at_hand session.new.phase session.new.lines
+        (results (K.written output.new) store.new.server))) }
     ensures idle { OnOk result (IsIdle session.new.phase session.new.lines) }
     ensures counted { OnOk result (session.new.taken ≡ session.old.taken + length piece.now) }
     ensures err { IfErr result (λ ended. StopsAnswering ended
-        (standing session.old.phase (session.old.lines ++ piece.now)
-        (results (K.held output.old) (K.write_faults output.old)
-        (server tables.old.kept (C.moments clock.old) (J.words dice.old))))
-        (results (K.held output.new) (K.write_faults output.new)
-        (server tables.new.kept (C.moments clock.new) (J.words dice.new)))) }
-    ensures above { IsAboveAll tables.new.kept.next tables.new.kept.rows }
+        (at_hand session.old.phase (session.old.lines ++ piece.now)
+        (results (K.written output.old) store.old.server))
+        (results (K.written output.new) store.new.server)) }
 {
     session.lines.feed(piece)?;
     session.taken += piece.len() as u64;
@@ -169,8 +135,6 @@ fn answer_piece<K: Sink, C: Clock, J: Dice>(
         &mut session.phase,
         &mut session.lines,
         output,
-        tables,
-        clock,
-        dice,
+        store,
     )
 }

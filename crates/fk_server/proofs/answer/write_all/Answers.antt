@@ -7,5 +7,5 @@ loop-at-preserved g c =
     rw (take-add c.loop-at.at c.in-Ok.count c.args.bytes.now)
     (wrote_both _ _ _ _ _ c.loop-at.invariant (record {
       gained = rw c.split_at.ensures.back at c.in-Ok.ensures.gained;
-      later = c.in-Ok.ensures.cause.later;
+      stays = c.in-Ok.ensures.cause.stays;
     }))

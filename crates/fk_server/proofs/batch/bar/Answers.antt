@@ -1,5 +1,5 @@
 use Rattle.std.proofs.Common.{string_bytes}
-use Rattle.fk_server.proofs.Told.{inserts}
+use Rattle.fk_server.proofs.RefusalsPut.{inserts}
 use Rattle.fk_server.proofs.batch.bar.Goals as goal
 
 pub returns : goal.returns

@@ -1,5 +1,5 @@
 use Rattle.std.proofs.Common.{refl}
-use Rattle.fk_server.proofs.Batches.{keeps_element, tells_element}
+use Rattle.fk_server.proofs.Batches.{keeps_element, bars_element}
 use Rattle.fk_server.proofs.batch.read_element.Goals as goal
 
 pub returns-in-Ok : goal.returns-in-Ok
@@ -9,5 +9,5 @@ returns-in-Ok c =
 
 pub returns-in-Err : goal.returns-in-Err
 returns-in-Err c =
-    tells_element c.bar.result c.args.text.now c.in-Err.fault _ _ (rw c.in-Err.is at c.in_ok-job.ensures)
+    bars_element c.bar.result c.args.text.now c.in-Err.fault _ _ (rw c.in-Err.is at c.in_ok-job.ensures)
     c.bar.ensures refl

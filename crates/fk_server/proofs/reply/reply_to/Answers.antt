@@ -1,9 +1,9 @@
 use Rattle.fk_server.proofs.Turning.{replies_own, made_in_form}
-use Rattle.fk_server.proofs.turn.reply_to.Goals as goal
+use Rattle.fk_server.proofs.reply.reply_to.Goals as goal
 
 pub returns-in-Own-clause-ok : goal.returns-in-Own-clause-ok
 returns-in-Own-clause-ok g c = rw c.in-Own.is (replies_own _ _)
 
 pub returns-else-not-is_in_range-clause-form : goal.returns-else-not-is_in_range-clause-form
 returns-else-not-is_in_range-clause-form g c =
-    rw c.reply_of.ensures (made_in_form _ _ _ _ c.make_turn-answer.ensures.made)
+    rw c.reply_of.ensures (made_in_form _ _ _ _ c.turn-answer.ensures)
