@@ -1,9 +1,8 @@
 //! The job server's program: `faktory_server pipe` serves its standard input and output.
 #![tactic(auto)]
 
-use fk_core::Tables;
 use fk_io::{RandDice, RealClock, StdSink, StdSource};
-use fk_server::pipe;
+use fk_server::{MemoryStore, pipe};
 use std::alloc::AllocError;
 use std::process::ExitCode;
 use std::random::RandomSource;
@@ -48,9 +47,7 @@ fn serve<R: Input + Print + Clock + RandomSource + AllocGlobal>(
     for word in words {
         texts.push(word.as_str())?;
     }
-    let mut dice = RandDice::new(rt)?;
-    let mut clock = RealClock::new(rt);
-    let mut tables = Tables::empty(rt.alloc());
+    let mut store = MemoryStore::new(rt.alloc(), RealClock::new(rt), RandDice::new(rt)?);
     let mut input = StdSource::new(rt);
     let mut output = StdSink::new(rt);
     Ok(pipe(
@@ -58,8 +55,6 @@ fn serve<R: Input + Print + Clock + RandomSource + AllocGlobal>(
         &texts,
         &mut input,
         &mut output,
-        &mut tables,
-        &mut clock,
-        &mut dice,
+        &mut store,
     ))
 }

@@ -1,5 +1,4 @@
 use Rattle.std.proofs.Common.{sym, ◌∙◌, arith}
-use Rattle.fk_model.specs.State.{without_workers}
 use Rattle.fk_server.proofs.Turning.{starves, is_beyond, is_full, is_within, says, no_worker_comes, still_between}
 use Rattle.fk_server.proofs.turn.turn_at.Goals as goal
 
@@ -23,7 +22,8 @@ returns-in-Ok-make_moves-clause-step c =
     let within = is_within _ c.args.ask.now c.args.moment c.args.word _ _ c.in-Ok.ensures.moves
     c.next.ensures.within c.in-Ok.ensures.stays.0 c.is_over_limit.ensures c.if-is_over_limit.false in
     says _ _ _ _ _ _ c.requires.range c.requires.moment (omega arith) within c.in-Ok.ensures.reply
-    (no_worker_comes _ _ _ _ _ (c.in-Ok-make_moves.ensures.ok ∙ sym (c.in-Ok.ensures.leads within).come))
+    (no_worker_comes c.args.tables.now.kept _ c.args.ask.now c.args.moment c.args.word
+    (c.in-Ok-make_moves.ensures.ok ∙ sym (c.in-Ok.ensures.leads within).come))
 
 pub returns-in-Ok-make_moves-clause-between : goal.returns-in-Ok-make_moves-clause-between
 returns-in-Ok-make_moves-clause-between c =
