@@ -50,11 +50,5 @@ fn serve<R: Input + Print + Clock + RandomSource + AllocGlobal>(
     let mut store = MemoryStore::new(rt.alloc(), RealClock::new(rt), RandDice::new(rt)?);
     let mut input = StdSource::new(rt);
     let mut output = StdSink::new(rt);
-    Ok(pipe(
-        rt.alloc(),
-        &texts,
-        &mut input,
-        &mut output,
-        &mut store,
-    ))
+    Ok(pipe(rt.alloc(), &texts, &mut input, &mut output, &mut store))
 }

@@ -64,15 +64,18 @@ not_begun input old new server breaks = (
     within = omega arith;
     prompt = inl refl;
     faults = (refl, breaks.broke.rose);
-    outcome = (breaks.broke.is_part, record {
-      answered = [];
-      begun = None;
-      others = [];
-      are_all = refl;
-      asks = refl;
-      whole = (behind_greeting breaks.part, refl);
-      no_more = (breaks.broke.is_part.0, breaks.broke.is_part.2);
-    });
+    outcome = (
+      breaks.broke.is_part,
+      record {
+        answered = [];
+        begun = None;
+        others = [];
+        are_all = refl;
+        asks = refl;
+        whole = (behind_greeting breaks.part, refl);
+        no_more = (breaks.broke.is_part.0, breaks.broke.is_part.2);
+      },
+    );
   },
 )
 
@@ -173,7 +176,7 @@ ends_at_line laws ended first now new session piece going was took well some sho
         behind_the_greeting (out was.items (answers_in was.history)) stops.part,
         out_both was.items stopped.answered was.history stops.history was.asks,
       )
-      (begins_behind _ _ _ stops.whole);
+          (begins_behind _ _ _ stops.whole);
       reads = well ∙ was.reads;
       stops = rw (all, output_both was.items due was.history stops.history was.asks)
           (stops_behind ended first.out now.out new.out before (out due (answers_in stops.history)) stops.part

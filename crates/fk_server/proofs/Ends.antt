@@ -65,8 +65,7 @@ pub ends_at_read : (first now new : Setting) (session : Session) → session.pha
 ends_at_read first now new session going room was left rose out server =
     ends_answered ReadFault first now new session was (rw left (took_nothing now.input.left))
     (ap (λ written. written.held) out) server
-    (rose_since first.input.faults now.input.faults new.input.faults was.reads rose, ap (λ written. written.faults) out ∙ was.writes)
-    (
+    (rose_since first.input.faults now.input.faults new.input.faults was.reads rose, ap (λ written. written.faults) out ∙ was.writes) (
       answered first now session was,
       goes_on first now session going was,
       let counted = was.counted in omega arith,
@@ -83,8 +82,7 @@ pub ends_at_end : (first now new : Setting) (session : Session) → session.phas
     → new.out ≡ now.out → new.server ≡ now.server → IsSession Closed first new
 ends_at_end first now new session going room was took end well out server =
     ends_answered Closed first now new session was took (ap (λ written. written.held) out) server
-    (well ∙ was.reads, ap (λ written. written.faults) out ∙ was.writes)
-    (
+    (well ∙ was.reads, ap (λ written. written.faults) out ∙ was.writes) (
       answered first now session was,
       inr (
         goes_on first now session going was,

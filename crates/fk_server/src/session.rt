@@ -43,7 +43,7 @@ pub fn serve<S: Source, K: Sink, C: Clock, J: Dice>(
         (setting (S.supply input.old) (K.written output.old) store.old.server)
         (setting (S.supply input.new) (K.written output.new) store.new.server) }
 {
-    if write_all(output, GREETING).is_err() {
+    if let Err(_) = write_all(output, GREETING) {
         return Ended::WriteFault;
     }
     let mut session = Session {
@@ -130,11 +130,5 @@ fn answer_piece<K: Sink, C: Clock, J: Dice>(
 {
     session.lines.feed(piece)?;
     session.taken += piece.len() as u64;
-    serve_lines(
-        alloc,
-        &mut session.phase,
-        &mut session.lines,
-        output,
-        store,
-    )
+    serve_lines(alloc, &mut session.phase, &mut session.lines, output, store)
 }
