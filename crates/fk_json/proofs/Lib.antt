@@ -46,8 +46,10 @@ pub mod NameEnded
 pub mod Between
 pub mod ReadingOn
 pub mod Readings
+pub mod Passing
 pub mod Places
 pub mod ReadTo
+pub mod Staying
 pub mod MemberPlaces
 pub mod Decided
 pub mod TokensSame

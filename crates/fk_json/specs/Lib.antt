@@ -9,6 +9,7 @@ pub mod Moves
 pub mod Brackets
 pub mod Left
 pub mod Standing
+pub mod Runs
 pub mod Remainder
 pub mod Reached
 pub mod Cursors

@@ -9,7 +9,8 @@ ghost use Rattle.fk_json.specs.Standing.{first_standing};
 
 use crate::JsonFault;
 use crate::mode::Bracket;
-use crate::standing::{Found, Standing, Step, first_standing, is_whole, read};
+use crate::run::region_run;
+use crate::standing::{Found, Region, Standing, Step, first_standing, is_whole, read};
 
 /// How far a text was read, and where the scan stands.
 #[derive(Clone, Copy)]
@@ -51,8 +52,9 @@ pub(crate) fn next_found(outer: Bracket, text: &[u8], cursor: Cursor) -> Result<
     'bytes: while at < text.len() {
         match read(outer, standing, at, text[at]) {
             Step::Goes(next, None) => {
-                standing = next;
-                at += 1;
+                let run = region_run(text, at + 1, next.region);
+                standing = in_region(next, run.mode);
+                at = run.to;
             }
             Step::Goes(next, Some(found)) => {
                 return Ok(Next::Found(found, behind(at, next)));
@@ -77,5 +79,16 @@ fn behind(at: usize, standing: Standing) -> Cursor
     Cursor {
         at: at + 1,
         standing,
+    }
+}
+
+// The same in another region.
+fn in_region(standing: Standing, region: Region) -> Standing
+    ensures { result ≡ record standing { region = region } }
+{
+    Standing {
+        region,
+        inner: standing.inner,
+        places: standing.places,
     }
 }

@@ -11,6 +11,7 @@ mod number;
 mod number_mode;
 mod pairs;
 mod piece;
+mod run;
 mod scan;
 mod span;
 mod standing;

@@ -54,7 +54,7 @@ pub(crate) fn token_step(token: Token, byte: u8) -> Option<Token>
     }
 }
 
-fn letters_step(left: Letters, byte: u8) -> Option<Letters>
+pub(crate) fn letters_step(left: Letters, byte: u8) -> Option<Letters>
     ensures { result ≡ letters_step left byte }
 {
     match (left, byte) {

@@ -1,13 +1,16 @@
 use Rattle.std.proofs.Common.{sym, ap, ◌∙◌}
 use Rattle.fk_json.specs.declared.standing.Step.TheVariants as step
 use Rattle.fk_json.proofs.ReadTo.{found_named, found_read, read_deep, read_early, read_ended, read_past, read_stops}
+use Rattle.fk_json.proofs.Staying.{reads_run}
 use Rattle.fk_json.proofs.cursor.next_found.Goals as goal
 
 pub bytes-preserved : goal.bytes-preserved
 bytes-preserved c =
     let s = c.in-Goes-default-None in
-    read_past c.args.outer c.args.text.now c.args.cursor c.bytes.at c.bytes.standing s.next c.bytes-test.true
-    c.bytes.invariant (ap (λ o. step.Goes s.next o) (sym s.field-1-is) ∙ sym s.is ∙ c.read.ensures)
+    reads_run c.args.outer c.args.text.now c.args.cursor _ _ s.next _ _
+    (read_past c.args.outer c.args.text.now c.args.cursor c.bytes.at c.bytes.standing s.next c.bytes-test.true
+    c.bytes.invariant (ap (λ o. step.Goes s.next o) (sym s.field-1-is) ∙ sym s.is ∙ c.read.ensures))
+    c.region_run-run.ensures c.in_region-standing.ensures
 
 pub returns-in-Goes-default-Some-clause-ok : goal.returns-in-Goes-default-Some-clause-ok
 returns-in-Goes-default-Some-clause-ok c = λ found read.

@@ -1,0 +1,9 @@
+use Rattle.std.proofs.Common.{sym, ◌∙◌}
+use Rattle.fk_json.specs.Tokens.{number_step}
+use Rattle.fk_json.proofs.Passing.{passes_byte, passes_on}
+use Rattle.fk_json.proofs.run.number_run.Goals as goal
+
+pub bytes-preserved : goal.bytes-preserved
+bytes-preserved c =
+    let led = sym c.number_step.ensures ∙ c.in-Some.is in
+    passes_on number_step _ _ _ _ _ _ _ c.bytes.invariant (passes_byte number_step _ _ _ _ c.bytes-test.true led)

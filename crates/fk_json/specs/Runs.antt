@@ -1,0 +1,39 @@
+-- Bytes that are read at once: how they lead on inside of one token, or in the white space between
+-- two.
+use Rattle.std.specs.Prelude.{◌≡◌, ◌==◌, ◌&&◌, ℕ, ◌≤◌, Bool, not, nat_lt, List, [], ◌∷◌, length, option_map, slice_range, Option, None, Some}
+use Rattle.std.specs.Option.{option_and_then}
+use Rattle.fk_json.specs.Json.{is_space}
+use Rattle.fk_json.specs.Tokens.{string_step, token_step, when}
+use Rattle.fk_json.specs.declared.mode.Mode.{Mode}
+use Rattle.fk_json.specs.declared.mode.Mode.TheVariants.{First, Next, Naming, Colon, Value, Within, After}
+use Rattle.fk_json.specs.declared.standing.Region.{Region}
+use Rattle.fk_json.specs.declared.standing.Region.TheVariants.{Before, Between, Behind}
+use Rattle.fk_json.specs.declared.string_mode.StringMode.{StringMode}
+use Rattle.fk_json.specs.declared.token.Token.{Token}
+
+-- where bytes lead, step by step, where each of them leads on
+abbrev pub through : {S : Type 0} → (S → ℕ → Option S) → S → List ℕ → Option S
+through step mode [] = Some mode
+through step mode (byte ∷ bytes) = option_and_then (λ next. through step next bytes) (step mode byte)
+
+-- the bytes of a text from a place to another lead from one mode to another
+pub record Passes {S : Type 0}
+    (step : S → ℕ → Option S) (text : List ℕ) (from : ℕ) (mode : S) (to : ℕ) (next : S) : Type 0 where
+  pub onward : from ≤ to
+  pub within : to ≤ length text
+  pub leads : through step mode (slice_range text from to) ≡ Some next
+
+-- a byte that stands for itself in a string, and is a character of its own
+abbrev pub is_plain : ℕ → Bool
+is_plain byte = not (byte == 34) && not (byte == 92) && not (nat_lt byte 32) && nat_lt byte 0x80
+
+-- where a byte leads inside of a name or a value, and white space anywhere else between brackets
+abbrev pub stays_between : Mode → ℕ → Option Mode
+stays_between (Naming name) b = option_map Naming (string_step name b)
+stays_between (Within token) b = option_map Within (token_step token b)
+stays_between mode b = when (is_space b) mode
+
+-- the same in a whole text
+abbrev pub stays : Region → ℕ → Option Region
+stays (Between mode) b = option_map Between (stays_between mode b)
+stays region b = when (is_space b) region

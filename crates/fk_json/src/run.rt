@@ -1,0 +1,198 @@
+// Bytes that are read at once: the rest of a token, and white space between two.
+ghost use Rattle.std.specs.Prelude.{◌≡◌, ◌+◌, ◌≤◌, length, drop};
+ghost use Rattle.std.specs.Char.{is_ascii_digit};
+ghost use Rattle.std.specs.List.{prefix_len};
+ghost use Rattle.fk_json.specs.Json.{is_space};
+ghost use Rattle.fk_json.specs.Runs.{Passes, is_plain, stays, stays_between};
+ghost use Rattle.fk_json.specs.Tokens.{letters_step, number_step, string_step, token_step};
+
+use crate::mode::{Mode, is_space};
+use crate::number_mode::{NumberMode, number_step};
+use crate::standing::Region;
+use crate::string_mode::{StringMode, string_step};
+use crate::token::{Letters, Token, letters_step};
+
+/// How far bytes lead on, and where.
+#[derive(Clone, Copy)]
+pub(crate) struct Run<M> {
+    pub to: usize,
+    pub mode: M,
+}
+
+/// Reads on to the end of a name, of a value without brackets, or of white space.
+pub(crate) fn region_run(text: &[u8], from: usize, region: Region) -> Run<Region>
+    requires { from ≤ length text.now }
+    ensures { Passes stays text.now from region result.to result.mode }
+{
+    match region {
+        Region::Between(mode) => {
+            let run = mode_run(text, from, mode);
+            Run {
+                to: run.to,
+                mode: Region::Between(run.mode),
+            }
+        }
+        Region::Before | Region::Behind => Run {
+            to: space_end(text, from),
+            mode: region,
+        },
+    }
+}
+
+fn mode_run(text: &[u8], from: usize, mode: Mode) -> Run<Mode>
+    requires { from ≤ length text.now }
+    ensures { Passes stays_between text.now from mode result.to result.mode }
+{
+    match mode {
+        Mode::Naming(name) => {
+            let run = string_run(text, from, name);
+            Run {
+                to: run.to,
+                mode: Mode::Naming(run.mode),
+            }
+        }
+        Mode::Within(token) => {
+            let run = token_run(text, from, token);
+            Run {
+                to: run.to,
+                mode: Mode::Within(run.mode),
+            }
+        }
+        Mode::First | Mode::Next | Mode::Colon | Mode::Value | Mode::After => Run {
+            to: space_end(text, from),
+            mode,
+        },
+    }
+}
+
+// Reads on to the end of a value without brackets.
+fn token_run(text: &[u8], from: usize, token: Token) -> Run<Token>
+    requires { from ≤ length text.now }
+    ensures { Passes token_step text.now from token result.to result.mode }
+{
+    match token {
+        Token::Number(mode) => {
+            let run = number_run(text, from, mode);
+            Run {
+                to: run.to,
+                mode: Token::Number(run.mode),
+            }
+        }
+        Token::Quoted(mode) => {
+            let run = string_run(text, from, mode);
+            Run {
+                to: run.to,
+                mode: Token::Quoted(run.mode),
+            }
+        }
+        Token::Letters(left) => {
+            let run = letters_run(text, from, left);
+            Run {
+                to: run.to,
+                mode: Token::Letters(run.mode),
+            }
+        }
+        Token::Bracketed => Run {
+            to: from,
+            mode: token,
+        },
+    }
+}
+
+// Reads on to the end of a string.
+fn string_run(text: &[u8], from: usize, mode: StringMode) -> Run<StringMode>
+    requires { from ≤ length text.now }
+    ensures { Passes string_step text.now from mode result.to result.mode }
+{
+    let mut to = from;
+    let mut mode = mode;
+    'parts: while to < text.len() {
+        match string_step(mode, text[to]) {
+            Some(next) => {
+                mode = next;
+                to = behind_run(text, to + 1, next);
+            }
+            None => break,
+        }
+    }
+    Run { to, mode }
+}
+
+// Behind the plain bytes that stand here, where the scan is between parts of a string.
+fn behind_run(text: &[u8], from: usize, mode: StringMode) -> usize
+    requires { from ≤ length text.now }
+    ensures { Passes string_step text.now from mode result mode }
+{
+    match mode {
+        StringMode::Inside => plain_end(text, from),
+        _ => from,
+    }
+}
+
+// Reads on to the end of a number.
+fn number_run(text: &[u8], from: usize, mode: NumberMode) -> Run<NumberMode>
+    requires { from ≤ length text.now }
+    ensures { Passes number_step text.now from mode result.to result.mode }
+{
+    let mut to = from;
+    let mut mode = mode;
+    'bytes: while to < text.len() {
+        match number_step(mode, text[to]) {
+            Some(next) => {
+                mode = next;
+                to += 1;
+            }
+            None => break,
+        }
+    }
+    Run { to, mode }
+}
+
+// Reads on to the end of `null`, `true` or `false`.
+fn letters_run(text: &[u8], from: usize, left: Letters) -> Run<Letters>
+    requires { from ≤ length text.now }
+    ensures { Passes letters_step text.now from left result.to result.mode }
+{
+    let mut to = from;
+    let mut left = left;
+    'bytes: while to < text.len() {
+        match letters_step(left, text[to]) {
+            Some(next) => {
+                left = next;
+                to += 1;
+            }
+            None => break,
+        }
+    }
+    Run { to, mode: left }
+}
+
+// Where the plain bytes of a string end.
+fn plain_end(text: &[u8], from: usize) -> usize
+    requires { from ≤ length text.now }
+    ensures { result ≡ from + prefix_len is_plain (drop from text.now) }
+{
+    let mut at = from;
+    'bytes: while at < text.len() && is_plain(text[at]) {
+        at += 1;
+    }
+    at
+}
+
+fn is_plain(byte: u8) -> bool
+    ensures { result ≡ is_plain byte }
+{
+    byte != b'"' && byte != b'\\' && 32 <= byte && byte < 0x80
+}
+
+// Where white space ends.
+fn space_end(text: &[u8], from: usize) -> usize
+    requires { from ≤ length text.now }
+    ensures { result ≡ from + prefix_len is_space (drop from text.now) }
+{
+    let mut at = from;
+    'bytes: while at < text.len() && is_space(text[at]) {
+        at += 1;
+    }
+    at
+}
