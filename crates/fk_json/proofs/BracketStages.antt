@@ -12,7 +12,7 @@ use Rattle.fk_json.specs.declared.mode.Mode.TheVariants.{First, Within}
 use Rattle.fk_json.specs.declared.mode.Move.TheVariants.{Opens, Closes}
 use Rattle.fk_json.specs.declared.standing.Found.{Found}
 use Rattle.fk_json.specs.declared.standing.Places.{Places}
-use Rattle.fk_json.specs.declared.standing.Step.TheVariants as step
+use Rattle.fk_json.specs.Step as step
 use Rattle.fk_json.specs.declared.token.Token.TheVariants.{Bracketed}
 use Rattle.fk_json.specs.Reached.{KnownBetween}
 use Rattle.fk_json.proofs.Beginnings.{closes_inner, opens_left, opens_none, pending_at}

@@ -13,8 +13,8 @@ use Rattle.fk_json.specs.declared.mode.Mode.TheVariants.{First, Next, Naming, Co
 use Rattle.fk_json.specs.declared.mode.Move.TheVariants.{To}
 use Rattle.fk_json.specs.declared.standing.Places.{Places}
 use Rattle.fk_json.specs.declared.standing.Standing.{Standing}
-use Rattle.fk_json.specs.declared.standing.Step.{Step}
-use Rattle.fk_json.specs.declared.standing.Step.TheVariants as step
+use Rattle.fk_json.specs.Step.{Step}
+use Rattle.fk_json.specs.Step as step
 use Rattle.fk_json.specs.declared.string_mode.StringMode.{StringMode}
 use Rattle.fk_json.specs.Reached.{Finds, FitsIn, IsNamed, IsPast, KnownBetween, KnownIn, NamedIn}
 use Rattle.fk_json.proofs.Leads.{BetweenLeft, NameLeads}

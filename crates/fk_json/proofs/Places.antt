@@ -11,7 +11,7 @@ use Rattle.fk_json.specs.declared.mode.Bracket.{Bracket}
 use Rattle.fk_json.specs.declared.mode.Bracket.TheVariants.{Array, Object}
 use Rattle.fk_json.specs.declared.mode.Mode.TheVariants.{First}
 use Rattle.fk_json.specs.declared.standing.Standing.{Standing}
-use Rattle.fk_json.specs.declared.standing.Step.TheVariants as step
+use Rattle.fk_json.specs.Step as step
 use Rattle.fk_json.specs.Reached.{Stands}
 use Rattle.fk_json.proofs.Completes.{between_completes}
 use Rattle.fk_json.proofs.Levels.{array_more, object_more}

@@ -14,8 +14,8 @@ use Rattle.fk_json.specs.declared.mode.Bracket.TheVariants.{Array, Object}
 use Rattle.fk_json.specs.declared.standing.Found.{Found}
 use Rattle.fk_json.specs.declared.standing.Places.{Places}
 use Rattle.fk_json.specs.declared.standing.Standing.{Standing}
-use Rattle.fk_json.specs.declared.standing.Step.{Step}
-use Rattle.fk_json.specs.declared.standing.Step.TheVariants as step
+use Rattle.fk_json.specs.Step.{Step}
+use Rattle.fk_json.specs.Step as step
 use Rattle.fk_json.specs.Cursors.{IsNamedIn, LeadsTo}
 use Rattle.fk_json.specs.declared.cursor.Next.{Next}
 use Rattle.fk_json.specs.declared.cursor.Next.TheVariants as next

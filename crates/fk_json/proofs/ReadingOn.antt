@@ -14,8 +14,8 @@ use Rattle.fk_json.specs.declared.standing.Places.{Places}
 use Rattle.fk_json.specs.declared.standing.Region.{Region}
 use Rattle.fk_json.specs.declared.standing.Region.TheVariants.{Before, Between, Behind}
 use Rattle.fk_json.specs.declared.standing.Standing.{Standing}
-use Rattle.fk_json.specs.declared.standing.Step.{Step}
-use Rattle.fk_json.specs.declared.standing.Step.TheVariants as step
+use Rattle.fk_json.specs.Step.{Step}
+use Rattle.fk_json.specs.Step as step
 use Rattle.fk_json.specs.Reached.{FitsIn, NamedIn, KnownRegion, Finds, KnownBetween, Stands}
 use Rattle.fk_json.proofs.Between.{between_right}
 use Rattle.fk_json.proofs.Spaces.{byte_else, byte_on, spaced_none, spaced_on}

@@ -18,7 +18,7 @@ use Rattle.fk_json.specs.declared.standing.Found.{Found}
 use Rattle.fk_json.specs.declared.standing.Places.{Places}
 use Rattle.fk_json.specs.declared.standing.Region.TheVariants.{Between}
 use Rattle.fk_json.specs.declared.standing.Standing.{Standing}
-use Rattle.fk_json.specs.declared.standing.Step.TheVariants as step
+use Rattle.fk_json.specs.Step as step
 use Rattle.fk_json.specs.declared.string_mode.StringMode.{StringMode}
 use Rattle.fk_json.specs.declared.string_mode.StringMode.TheVariants.{Inside}
 use Rattle.fk_json.specs.declared.token.Token.{Token}

@@ -10,7 +10,7 @@ use Rattle.fk_json.specs.declared.mode.Move.TheVariants.{To, Names, Begins, Open
 use Rattle.fk_json.specs.declared.standing.Found.{Found}
 use Rattle.fk_json.specs.declared.standing.Places.{Places}
 use Rattle.fk_json.specs.declared.standing.Region.{Region}
-use Rattle.fk_json.specs.declared.standing.Step.TheVariants as step
+use Rattle.fk_json.specs.Step as step
 use Rattle.fk_json.proofs.Outcomes.{Outcome, Source}
 use Rattle.fk_json.proofs.Stages.{Stage, leads_begins, leads_names, leads_to}
 use Rattle.fk_json.proofs.BracketStages.{leads_closes, opened_by}

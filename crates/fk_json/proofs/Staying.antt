@@ -17,8 +17,8 @@ use Rattle.fk_json.specs.declared.standing.Places.{Places}
 use Rattle.fk_json.specs.declared.standing.Region.{Region}
 use Rattle.fk_json.specs.declared.standing.Region.TheVariants.{Before, Between, Behind}
 use Rattle.fk_json.specs.declared.standing.Standing.{Standing}
-use Rattle.fk_json.specs.declared.standing.Step.{Step}
-use Rattle.fk_json.specs.declared.standing.Step.TheVariants as step
+use Rattle.fk_json.specs.Step.{Step}
+use Rattle.fk_json.specs.Step as step
 use Rattle.fk_json.proofs.ReadTo.{ReadsOn, read_past}
 
 -- ---- white space stays where it is

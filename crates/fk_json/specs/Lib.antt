@@ -8,6 +8,7 @@ pub mod Members
 pub mod Moves
 pub mod Brackets
 pub mod Left
+pub mod Step
 pub mod Standing
 pub mod Runs
 pub mod Remainder

@@ -12,8 +12,8 @@ use Rattle.fk_json.specs.declared.standing.Found.{Found}
 use Rattle.fk_json.specs.declared.standing.Region.{Region}
 use Rattle.fk_json.specs.declared.standing.Region.TheVariants.{Before, Between, Behind}
 use Rattle.fk_json.specs.declared.standing.Standing.{Standing}
-use Rattle.fk_json.specs.declared.standing.Step.{Step}
-use Rattle.fk_json.specs.declared.standing.Step.TheVariants as step
+use Rattle.fk_json.specs.Step.{Step}
+use Rattle.fk_json.specs.Step as step
 use Rattle.fk_json.specs.declared.string_mode.StringMode.TheVariants.{Inside}
 use Rattle.fk_json.specs.declared.token.Token.TheVariants.{Bracketed}
 

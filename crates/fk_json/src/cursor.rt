@@ -10,7 +10,7 @@ ghost use Rattle.fk_json.specs.Standing.{first_standing};
 use crate::JsonFault;
 use crate::mode::Bracket;
 use crate::run::region_run;
-use crate::standing::{Found, Region, Standing, Step, first_standing, is_whole, read};
+use crate::standing::{Found, Led, Standing, first_standing, is_whole, read};
 
 /// How far a text was read, and where the scan stands.
 #[derive(Clone, Copy)]
@@ -49,21 +49,19 @@ pub(crate) fn next_found(outer: Bracket, text: &[u8], cursor: Cursor) -> Result<
 {
     let mut at = cursor.at;
     let mut standing = cursor.standing;
-    'bytes: while at < text.len() {
-        match read(outer, standing, at, text[at]) {
-            Step::Goes(next, None) => {
-                let run = region_run(text, at + 1, next.region);
-                standing = in_region(next, run.mode);
+    'tokens: while at < text.len() {
+        match read(outer, &mut standing, at, text[at]) {
+            Led::On(None) => {
+                let run = region_run(text, at + 1, standing.region);
+                standing.region = run.mode;
                 at = run.to;
             }
-            Step::Goes(next, Some(found)) => {
-                return Ok(Next::Found(found, behind(at, next)));
-            }
-            Step::TooDeep => return Err(JsonFault::TooDeep(at)),
-            Step::Stops => return Err(JsonFault::Syntax(at)),
+            Led::On(Some(found)) => return Ok(Next::Found(found, behind(at, standing))),
+            Led::TooDeep => return Err(JsonFault::TooDeep(at)),
+            Led::Stops => return Err(JsonFault::Syntax(at)),
         }
     }
-    if is_whole(standing) {
+    if is_whole(&standing) {
         Ok(Next::End)
     } else {
         Err(JsonFault::Syntax(text.len()))
@@ -79,16 +77,5 @@ fn behind(at: usize, standing: Standing) -> Cursor
     Cursor {
         at: at + 1,
         standing,
-    }
-}
-
-// The same in another region.
-fn in_region(standing: Standing, region: Region) -> Standing
-    ensures { result ≡ record standing { region = region } }
-{
-    Standing {
-        region,
-        inner: standing.inner,
-        places: standing.places,
     }
 }

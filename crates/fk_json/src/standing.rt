@@ -1,7 +1,7 @@
 // Where a scan stands in a text, and how a byte leads on (RFC 8259, section 2).
 ghost use Rattle.std.specs.Prelude.{◌≡◌};
-ghost use Rattle.fk_json.specs.Moves.{innermost};
-ghost use Rattle.fk_json.specs.Standing.{before, begun_at, behind, between, between_by, closed, ended_at, first_standing, goes, is_whole, moved, named_at, names_at, opened, read, to_mode};
+ghost use Rattle.fk_json.specs.Standing.{before, begun_at, behind, between, between_by, closed, ended_at, first_standing, is_whole, moved, named_at, names_at, opened, read};
+ghost use Rattle.fk_json.specs.Step.{gives};
 
 use crate::brackets::Brackets;
 use crate::mode::{Bracket, Mode, Move, is_space, move_of, opening};
@@ -39,11 +39,11 @@ pub(crate) struct Standing {
     pub places: Places,
 }
 
-/// What a byte does to a scan.
+/// What a byte did to a scan.
 #[derive(Clone, Copy)]
-pub(crate) enum Step {
-    /// It leads on, and perhaps an item ended before it.
-    Goes(Standing, Option<Found>),
+pub(crate) enum Led {
+    /// It led on, and perhaps an item ended before it.
+    On(Option<Found>),
     /// It opens a level too many.
     TooDeep,
     /// It can't stand there.
@@ -65,9 +65,9 @@ pub(crate) fn first_standing() -> Standing
     }
 }
 
-/// What the byte at a place does.
-pub(crate) fn read(outer: Bracket, standing: Standing, at: usize, byte: u8) -> Step
-    ensures { result ≡ read outer standing at byte }
+/// Reads the byte at a place.
+pub(crate) fn read(outer: Bracket, standing: &mut Standing, at: usize, byte: u8) -> Led
+    ensures { gives result standing.new ≡ read outer standing.old at byte }
 {
     match standing.region {
         Region::Before => before(outer, standing, byte),
@@ -77,8 +77,8 @@ pub(crate) fn read(outer: Bracket, standing: Standing, at: usize, byte: u8) -> S
 }
 
 /// Whether the text may end here.
-pub(crate) fn is_whole(standing: Standing) -> bool
-    ensures { result ≡ is_whole standing.region }
+pub(crate) fn is_whole(standing: &Standing) -> bool
+    ensures { result ≡ is_whole standing.now.region }
 {
     match standing.region {
         Region::Behind => true,
@@ -86,90 +86,59 @@ pub(crate) fn is_whole(standing: Standing) -> bool
     }
 }
 
-fn before(outer: Bracket, standing: Standing, byte: u8) -> Step
-    ensures { result ≡ before outer standing byte }
+fn before(outer: Bracket, standing: &mut Standing, byte: u8) -> Led
+    ensures { gives result standing.new ≡ before outer standing.old byte }
 {
     if is_space(byte) {
-        goes(standing)
+        Led::On(None)
     } else if byte == opening(outer) {
-        goes(to_mode(standing, Mode::First))
+        standing.region = Region::Between(Mode::First);
+        Led::On(None)
     } else {
-        Step::Stops
+        Led::Stops
     }
 }
 
-fn behind(standing: Standing, byte: u8) -> Step
-    ensures { result ≡ behind standing byte }
+fn behind(standing: &mut Standing, byte: u8) -> Led
+    ensures { gives result standing.new ≡ behind standing.old byte }
 {
     if is_space(byte) {
-        goes(standing)
+        Led::On(None)
     } else {
-        Step::Stops
-    }
-}
-
-fn goes(standing: Standing) -> Step
-    ensures { result ≡ goes standing }
-{
-    Step::Goes(standing, None)
-}
-
-fn to_mode(standing: Standing, mode: Mode) -> Standing
-    ensures { result ≡ to_mode standing mode }
-{
-    Standing {
-        region: Region::Between(mode),
-        inner: standing.inner,
-        places: standing.places,
+        Led::Stops
     }
 }
 
 // Between the outermost brackets. A byte that stands behind a name or a value has ended it.
-fn between(outer: Bracket, standing: Standing, mode: Mode, at: usize, byte: u8) -> Step
-    ensures { result ≡ between outer standing mode at byte }
+fn between(outer: Bracket, standing: &mut Standing, mode: Mode, at: usize, byte: u8) -> Led
+    ensures { gives result standing.new ≡ between outer standing.old mode at byte }
 {
-    let bracket = innermost(&standing, outer);
+    let bracket = standing.inner.innermost(outer);
     between_by(bracket, standing, at, byte, move_of(bracket, mode, byte))
 }
 
-fn innermost(standing: &Standing, outer: Bracket) -> Bracket
-    ensures { result ≡ innermost outer standing.now.inner }
-{
-    standing.inner.innermost(outer)
-}
-
-fn between_by(bracket: Bracket, standing: Standing, at: usize, byte: u8, led: Move) -> Step
-    ensures { result ≡ between_by bracket standing at byte led }
+fn between_by(bracket: Bracket, standing: &mut Standing, at: usize, byte: u8, led: Move) -> Led
+    ensures { gives result standing.new ≡ between_by bracket standing.old at byte led }
 {
     match led {
         Move::Named => {
-            let behind_name = move_of(bracket, Mode::Colon, byte);
-            moved(named_at(standing, at), None, at, behind_name)
+            named_at(standing, at);
+            moved(standing, None, at, move_of(bracket, Mode::Colon, byte))
         }
         Move::Ended => {
-            let behind_value = move_of(bracket, Mode::After, byte);
-            let found = ended_at(&standing, at);
-            moved(standing, found, at, behind_value)
+            let found = ended_at(standing, at);
+            moved(standing, found, at, move_of(bracket, Mode::After, byte))
         }
         other => moved(standing, None, at, other),
     }
 }
 
 // The name has ended.
-fn named_at(standing: Standing, at: usize) -> Standing
-    ensures { result ≡ named_at standing at }
+fn named_at(standing: &mut Standing, at: usize)
+    ensures { standing.new ≡ named_at standing.old at }
 {
-    if !standing.inner.is_empty() {
-        return standing;
-    }
-    Standing {
-        region: standing.region,
-        inner: standing.inner,
-        places: Places {
-            name_from: standing.places.name_from,
-            name_to: at,
-            from: standing.places.from,
-        },
+    if standing.inner.is_empty() {
+        standing.places.name_to = at;
     }
 }
 
@@ -187,87 +156,73 @@ fn ended_at(standing: &Standing, at: usize) -> Option<Found>
 }
 
 // A name begins.
-fn names_at(standing: Standing, at: usize) -> Standing
-    ensures { result ≡ names_at standing at }
+fn names_at(standing: &mut Standing, at: usize)
+    ensures { standing.new ≡ names_at standing.old at }
 {
-    if !standing.inner.is_empty() {
-        return standing;
-    }
-    Standing {
-        region: standing.region,
-        inner: standing.inner,
-        places: Places {
-            name_from: at,
-            name_to: standing.places.name_to,
-            from: standing.places.from,
-        },
+    if standing.inner.is_empty() {
+        standing.places.name_from = at;
     }
 }
 
 // A value begins.
-fn begun_at(standing: Standing, at: usize) -> Standing
-    ensures { result ≡ begun_at standing at }
+fn begun_at(standing: &mut Standing, at: usize)
+    ensures { standing.new ≡ begun_at standing.old at }
 {
-    if !standing.inner.is_empty() {
-        return standing;
-    }
-    Standing {
-        region: standing.region,
-        inner: standing.inner,
-        places: Places {
-            name_from: standing.places.name_from,
-            name_to: standing.places.name_to,
-            from: at,
-        },
+    if standing.inner.is_empty() {
+        standing.places.from = at;
     }
 }
 
 // Where a move leads.
-fn moved(standing: Standing, found: Option<Found>, at: usize, led: Move) -> Step
-    ensures { result ≡ moved standing found at led }
+fn moved(standing: &mut Standing, found: Option<Found>, at: usize, led: Move) -> Led
+    ensures { gives result standing.new ≡ moved standing.old found at led }
 {
     match led {
-        Move::To(mode) => Step::Goes(to_mode(standing, mode), found),
+        Move::To(mode) => {
+            standing.region = Region::Between(mode);
+            Led::On(found)
+        }
         Move::Names => {
-            let next = names_at(standing, at);
-            Step::Goes(to_mode(next, Mode::Naming(StringMode::Inside)), found)
+            names_at(standing, at);
+            standing.region = Region::Between(Mode::Naming(StringMode::Inside));
+            Led::On(found)
         }
         Move::Begins(token) => {
-            Step::Goes(to_mode(begun_at(standing, at), Mode::Within(token)), found)
+            begun_at(standing, at);
+            standing.region = Region::Between(Mode::Within(token));
+            Led::On(found)
         }
-        Move::Opens(bracket) => opened(begun_at(standing, at), found, bracket),
-        Move::Closes => Step::Goes(closed(standing), found),
-        Move::Named | Move::Ended | Move::Stops => Step::Stops,
+        Move::Opens(bracket) => {
+            begun_at(standing, at);
+            opened(standing, found, bracket)
+        }
+        Move::Closes => {
+            closed(standing);
+            Led::On(found)
+        }
+        Move::Named | Move::Ended | Move::Stops => Led::Stops,
     }
 }
 
-fn opened(standing: Standing, found: Option<Found>, bracket: Bracket) -> Step
-    ensures { result ≡ opened standing found bracket }
+fn opened(standing: &mut Standing, found: Option<Found>, bracket: Bracket) -> Led
+    ensures { gives result standing.new ≡ opened standing.old found bracket }
 {
     if standing.inner.is_full() {
-        return Step::TooDeep;
+        return Led::TooDeep;
     }
-    let inside = Standing {
-        region: Region::Between(Mode::First),
-        inner: standing.inner.push(bracket),
-        places: standing.places,
-    };
-    Step::Goes(inside, found)
+    standing.region = Region::Between(Mode::First);
+    standing.inner = standing.inner.push(bracket);
+    Led::On(found)
 }
 
-fn closed(standing: Standing) -> Standing
-    ensures { result ≡ closed standing }
+fn closed(standing: &mut Standing)
+    ensures { standing.new ≡ closed standing.old }
 {
     match standing.inner.pop() {
-        Some(inner) => Standing {
-            region: Region::Between(Mode::Within(Token::Bracketed)),
-            inner,
-            places: standing.places,
-        },
-        None => Standing {
-            region: Region::Behind,
-            inner: standing.inner,
-            places: standing.places,
-        },
+        Some(inner) => {
+            standing.region = Region::Between(Mode::Within(Token::Bracketed));
+            standing.inner = inner;
+        }
+        None => standing.region = Region::Behind,
     }
 }
