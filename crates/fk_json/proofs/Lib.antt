@@ -1,5 +1,6 @@
 pub mod Integers
 pub mod Parts
+pub mod Itself
 pub mod Utf8Strings
 pub mod FirstBytes
 pub mod BytesTogether

@@ -105,7 +105,7 @@ passes_kept step test text at to mode keeps l e = record {
 }
 
 plain_inside : (quoted escaped control ascii : Bool) (wide : Option StringMode)
-    → (not quoted && not escaped && not control && ascii) ≡ true
+    → ((not quoted && not escaped && not control) && ascii) ≡ true
     → (if quoted then Some Closed else if escaped then Some Escape else if control then None
     else if ascii then Some Inside else wide) ≡ Some Inside
 plain_inside true escaped control ascii wide e = absurd (false≢true e)

@@ -1,8 +1,8 @@
 -- How a string is read from its front, part by part.
-use Rattle.std.specs.Prelude.{◌≡◌, ℕ, List, [], ◌∷◌, ◌++◌, ◌&&◌, if◌then◌else◌, Option, None, Some, flat_map, map, encode_utf8}
+use Rattle.std.specs.Prelude.{◌≡◌, ℕ, List, [], ◌∷◌, ◌++◌, ◌&&◌, if◌then◌else◌, Option, None, Some, flat_map, map, encode_utf8, drop}
 use Rattle.std.specs.Char.Utf16.{is_high_surrogate, is_low_surrogate, surrogate_pair_char}
-use Rattle.std.specs.List.{AllByRecursion}
-use Rattle.fk_json.specs.String.{Part, byte, letter, unit, IsPart, code_unit, letter_byte, lone_unit, part_text, quote}
+use Rattle.std.specs.List.{AllByRecursion, prefix_len, take_while}
+use Rattle.fk_json.specs.String.{Part, byte, letter, unit, IsPart, code_unit, letter_byte, lone_unit, is_itself, part_text, quote}
 use Rattle.fk_json.specs.declared.piece.Piece.{Piece}
 use Rattle.fk_json.specs.declared.piece.Piece.TheVariants.{Byte, Unit}
 
@@ -58,3 +58,10 @@ pub record StandsFor (high : Option ℕ) (bytes value : List ℕ) : Type 0 where
 -- a quote, parts and the closing quote
 abbrev pub IsQuoted : List ℕ → List ℕ → Type 0
 IsQuoted text value = (inside : List ℕ) × (text ≡ quote ∷ inside) × StandsFor None inside value
+
+-- a value gains the bytes at the front of others that stand for themselves, unless a high surrogate
+-- looks for its partner there
+abbrev pub GainsBehind : Option ℕ → List ℕ → List ℕ → List ℕ → List ℕ → Type 0
+GainsBehind None value bytes new rest =
+    (new ≡ value ++ take_while is_itself bytes) × (rest ≡ drop (prefix_len is_itself bytes) bytes)
+GainsBehind (Some high) value bytes new rest = (new ≡ value) × (rest ≡ bytes)

@@ -1,8 +1,9 @@
 -- Bytes that are read at once: how they lead on inside of one token, or in the white space between
 -- two.
-use Rattle.std.specs.Prelude.{◌≡◌, ◌==◌, ◌&&◌, ℕ, ◌≤◌, Bool, not, nat_lt, List, [], ◌∷◌, length, option_map, slice_range, Option, None, Some}
+use Rattle.std.specs.Prelude.{◌≡◌, ◌&&◌, ℕ, ◌≤◌, Bool, nat_lt, List, [], ◌∷◌, length, option_map, slice_range, Option, None, Some}
 use Rattle.std.specs.Option.{option_and_then}
 use Rattle.fk_json.specs.Json.{is_space}
+use Rattle.fk_json.specs.String.{is_itself}
 use Rattle.fk_json.specs.Tokens.{string_step, token_step, when}
 use Rattle.fk_json.specs.declared.mode.Mode.{Mode}
 use Rattle.fk_json.specs.declared.mode.Mode.TheVariants.{First, Next, Naming, Colon, Value, Within, After}
@@ -25,7 +26,7 @@ pub record Passes {S : Type 0}
 
 -- a byte that stands for itself in a string, and is a character of its own
 abbrev pub is_plain : ℕ → Bool
-is_plain byte = not (byte == 34) && not (byte == 92) && not (nat_lt byte 32) && nat_lt byte 0x80
+is_plain byte = is_itself byte && nat_lt byte 0x80
 
 -- where a byte leads inside of a name or a value, and white space anywhere else between brackets
 abbrev pub stays_between : Mode → ℕ → Option Mode

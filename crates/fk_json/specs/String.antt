@@ -1,6 +1,6 @@
 -- JSON strings (RFC 8259, section 7): the one spelling that is written, and the texts that are
 -- read.
-use Rattle.std.specs.Prelude.{◌≡◌, ◌≢◌, ℕ, ◌+◌, ◌*◌, ◌/◌, ◌%◌, ◌<◌, ◌≤◌, ◌==◌, ◌&&◌, ◌||◌, nat_lt, Bool, true, if◌then◌else◌, List, [], ◌∷◌, ◌++◌, codes, flat_map, IsUtf8, encode_utf8}
+use Rattle.std.specs.Prelude.{◌≡◌, ◌≢◌, ℕ, ◌+◌, ◌*◌, ◌/◌, ◌%◌, ◌<◌, ◌≤◌, ◌==◌, ◌&&◌, ◌||◌, nat_lt, Bool, not, true, if◌then◌else◌, List, [], ◌∷◌, ◌++◌, codes, flat_map, IsUtf8, encode_utf8}
 use Rattle.std.specs.Char.{digit_value, digit_char}
 use Rattle.std.specs.Char.Utf16.{is_high_surrogate, is_low_surrogate, surrogate_pair_char}
 use Rattle.std.specs.List.{AllByRecursion}
@@ -12,6 +12,10 @@ quote = 34
 -- the byte before an escape
 abbrev pub backslash : ℕ
 backslash = 92
+
+-- a byte that stands for itself
+abbrev pub is_itself : ℕ → Bool
+is_itself byte = not (byte == quote) && not (byte == backslash) && not (nat_lt byte 32)
 
 -- ---- what is written
 

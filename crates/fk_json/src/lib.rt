@@ -3,6 +3,7 @@
 
 mod brackets;
 mod cursor;
+mod ends;
 mod fault;
 mod list_of;
 mod member;

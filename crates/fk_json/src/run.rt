@@ -1,12 +1,10 @@
 // Bytes that are read at once: the rest of a token, and white space between two.
-ghost use Rattle.std.specs.Prelude.{◌≡◌, ◌+◌, ◌≤◌, length, drop};
-ghost use Rattle.std.specs.Char.{is_ascii_digit};
-ghost use Rattle.std.specs.List.{prefix_len};
-ghost use Rattle.fk_json.specs.Json.{is_space};
-ghost use Rattle.fk_json.specs.Runs.{Passes, is_plain, stays, stays_between};
+ghost use Rattle.std.specs.Prelude.{◌≤◌, length};
+ghost use Rattle.fk_json.specs.Runs.{Passes, stays, stays_between};
 ghost use Rattle.fk_json.specs.Tokens.{letters_step, number_step, string_step, token_step};
 
-use crate::mode::{Mode, is_space};
+use crate::ends::{plain_end, space_end};
+use crate::mode::Mode;
 use crate::number_mode::{NumberMode, number_step};
 use crate::standing::Region;
 use crate::string_mode::{StringMode, string_step};
@@ -165,34 +163,4 @@ fn letters_run(text: &[u8], from: usize, left: Letters) -> Run<Letters>
         }
     }
     Run { to, mode: left }
-}
-
-// Where the plain bytes of a string end.
-fn plain_end(text: &[u8], from: usize) -> usize
-    requires { from ≤ length text.now }
-    ensures { result ≡ from + prefix_len is_plain (drop from text.now) }
-{
-    let mut at = from;
-    'bytes: while at < text.len() && is_plain(text[at]) {
-        at += 1;
-    }
-    at
-}
-
-fn is_plain(byte: u8) -> bool
-    ensures { result ≡ is_plain byte }
-{
-    byte != b'"' && byte != b'\\' && 32 <= byte && byte < 0x80
-}
-
-// Where white space ends.
-fn space_end(text: &[u8], from: usize) -> usize
-    requires { from ≤ length text.now }
-    ensures { result ≡ from + prefix_len is_space (drop from text.now) }
-{
-    let mut at = from;
-    'bytes: while at < text.len() && is_space(text[at]) {
-        at += 1;
-    }
-    at
 }

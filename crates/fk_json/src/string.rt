@@ -1,10 +1,12 @@
-ghost use Rattle.std.specs.Prelude.{◌≡◌, ◌∷◌, [], ◌++◌, ◌<◌, ℕ, List, Ok, None, Some, flat_map, IfOk, IfSome, IsUtf8, OnErr, OnOk};
+ghost use Rattle.std.specs.Prelude.{drop, ◌≡◌, ◌∷◌, [], ◌++◌, ◌<◌, ℕ, List, Ok, None, Some, flat_map, IfOk, IfSome, IsUtf8, OnErr, OnOk};
 ghost use Rattle.std.specs.Char.{digit_char};
+ghost use Rattle.std.specs.List.{prefix_len, take_while};
 ghost use Rattle.std.specs.Str.{bytes_eq};
-ghost use Rattle.fk_json.specs.Pieces.{IsQuoted, StandsFor};
-ghost use Rattle.fk_json.specs.String.{IsString, quote, spelled_byte, spelled_control, spelling};
+ghost use Rattle.fk_json.specs.Pieces.{GainsBehind, IsQuoted, StandsFor};
+ghost use Rattle.fk_json.specs.String.{IsString, is_itself, quote, spelled_byte, spelled_control, spelling};
 
 use crate::Text;
+use crate::ends::itself_end;
 use crate::piece::{part_at, push_alone, push_piece};
 use std::alloc::{AllocError, Global};
 
@@ -13,12 +15,35 @@ pub fn push_string(out: &mut Text, value: &Text) -> Result<(), AllocError>
     ensures ok { OnOk result (out.new ≡ out.old ++ spelling value.now) }
     ensures err { OnErr result (out.new ≡ out.old) }
 {
-    let mut spelled = Text::copy(out.allocator(), b"\"")?;
-    for byte in value.bytes() {
+    let spelled = spelled(out.allocator(), value.bytes())?;
+    out.push_bytes(spelled.bytes())
+}
+
+// A value as it is written, by runs of the bytes that stand for themselves.
+fn spelled(alloc: Global, value: &[u8]) -> Result<Text, AllocError>
+    ensures { IfOk result (λ text. text ≡ spelling value.now) }
+{
+    let mut spelled = Text::with_room(alloc, value.len().saturating_add(2))?;
+    spelled.push_bytes(b"\"")?;
+    let mut rest = push_run(&mut spelled, value)?;
+    'escapes: while let Some((byte, after)) = rest.split_first() {
         push_byte(&mut spelled, *byte)?;
+        rest = push_run(&mut spelled, after)?;
     }
     spelled.push_bytes(b"\"")?;
-    out.push_bytes(spelled.bytes())
+    Ok(spelled)
+}
+
+// Adds the bytes at the front that stand for themselves in a string, and answers what stands behind
+// them.
+fn push_run<'a>(out: &mut Text, bytes: &'a [u8]) -> Result<&'a [u8], AllocError>
+    ensures gains { OnOk result (out.new ≡ out.old ++ take_while is_itself bytes.now) }
+    ensures rest { IfOk result
+        (λ rest. rest.now ≡ drop (prefix_len is_itself bytes.now) bytes.now) }
+{
+    let (run, rest) = bytes.split_at(itself_end(bytes, 0));
+    out.push_bytes(run)?;
+    Ok(rest)
 }
 
 // One byte of a value, as it is written.
@@ -98,18 +123,32 @@ fn decoded(alloc: Global, inside: &[u8]) -> Result<Option<Text>, AllocError>
     ensures some { IfOk result (λ found. IfSome found (λ value. StandsFor None inside.now value)) }
     ensures none { result ≡ Ok None → (value : List ℕ) → ¬ StandsFor None inside.now value }
 {
-    let mut value = Text::fixed(alloc, b"");
+    let mut value = Text::with_room(alloc, inside.len())?;
     let mut high = None;
-    let mut rest = inside;
+    let mut rest = push_run(&mut value, inside)?;
     'parts: while let Some((piece, after)) = part_at(rest) {
         high = push_piece(&mut value, high, piece)?;
-        rest = after;
+        rest = push_run_behind(&mut value, high, after)?;
     }
     if !is_quote(rest) {
         return Ok(None);
     }
     push_alone(&mut value, high)?;
     Ok(Some(value))
+}
+
+// The same, unless a high surrogate looks for its partner there.
+fn push_run_behind<'a>(
+    value: &mut Text,
+    high: Option<u16>,
+    bytes: &'a [u8],
+) -> Result<&'a [u8], AllocError>
+    ensures { IfOk result (λ rest. GainsBehind high value.old bytes.now value.new rest.now) }
+{
+    match high {
+        Some(_) => Ok(bytes),
+        None => push_run(value, bytes),
+    }
 }
 
 // Whether a closing quote is left and nothing else.

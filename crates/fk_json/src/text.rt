@@ -34,6 +34,16 @@ impl Text {
         }
     }
 
+    /// An empty text with room for so many bytes.
+    pub(crate) fn with_room(alloc: Global, room: usize) -> Result<Text, AllocError>
+        ensures { IfOk result (λ text. text ≡ []) }
+    {
+        Ok(Text {
+            fixed: None,
+            owned: Vec::with_capacity(alloc, room)?,
+        })
+    }
+
     /// A copy of the bytes.
     pub fn copy(alloc: Global, bytes: &[u8]) -> Result<Text, AllocError>
         ensures { IfOk result (λ text. text ≡ bytes.now) }

@@ -1,7 +1,7 @@
 use Rattle.std.proofs.Common.{◌≡◌, ◌+◌, ◌-◌, ◌≤◌, drop, length}
 use Rattle.std.specs.List.{prefix_len}
 use Rattle.fk_json.specs.Json.{is_space}
-use Rattle.fk_json.proofs.run.space_end.Given as goal
+use Rattle.fk_json.proofs.ends.space_end.Given as goal
 
 -- the bytes that were passed and those that will be
 abbrev pub invariant-bytes : goal.invariant-bytes
