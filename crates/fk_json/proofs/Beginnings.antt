@@ -12,7 +12,7 @@ use Rattle.fk_json.specs.declared.mode.Bracket.{Bracket}
 use Rattle.fk_json.specs.declared.mode.Bracket.TheVariants.{Array, Object}
 use Rattle.fk_json.specs.declared.mode.Mode.{Mode}
 use Rattle.fk_json.specs.declared.mode.Mode.TheVariants.{First, Naming, Within}
-use Rattle.fk_json.specs.declared.mode.Move.TheVariants.{Names, Begins, Opens, Closes}
+use Rattle.fk_json.specs.Moves.{Names, Begins, Opens, Closes}
 use Rattle.fk_json.specs.declared.standing.Places.{Places}
 use Rattle.fk_json.specs.declared.string_mode.StringMode.TheVariants.{Inside}
 use Rattle.fk_json.specs.declared.token.Token.{Token}

@@ -9,7 +9,7 @@ use Rattle.fk_json.specs.declared.mode.Bracket.{Bracket}
 use Rattle.fk_json.specs.declared.mode.Bracket.TheVariants.{Array, Object}
 use Rattle.fk_json.specs.declared.mode.Mode.{Mode}
 use Rattle.fk_json.specs.declared.mode.Mode.TheVariants.{First, Within}
-use Rattle.fk_json.specs.declared.mode.Move.TheVariants.{Opens, Closes}
+use Rattle.fk_json.specs.Moves.{Opens, Closes}
 use Rattle.fk_json.specs.declared.standing.Found.{Found}
 use Rattle.fk_json.specs.declared.standing.Places.{Places}
 use Rattle.fk_json.specs.Step as step

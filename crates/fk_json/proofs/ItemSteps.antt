@@ -9,7 +9,7 @@ use Rattle.fk_json.specs.declared.member.Member.{Member}
 use Rattle.fk_json.specs.declared.mode.Bracket.{Bracket}
 use Rattle.fk_json.specs.declared.mode.Bracket.TheVariants.{Array, Object}
 use Rattle.fk_json.specs.declared.mode.Mode.TheVariants.{First, Next}
-use Rattle.fk_json.specs.declared.mode.Move.TheVariants.{To, Names, Closes, Stops}
+use Rattle.fk_json.specs.Moves.{To, Names, Closes, Stops}
 use Rattle.fk_json.proofs.Fronts.{Closing, name_empty, within_empty, name_ended, name_on, tail_close, tail_comma, tail_else, tail_space}
 use Rattle.fk_json.proofs.ElementsApart.{elements_apart}
 use Rattle.fk_json.proofs.MembersApart.{members_apart}

@@ -11,8 +11,8 @@ use Rattle.fk_json.specs.declared.mode.Bracket.{Bracket}
 use Rattle.fk_json.specs.declared.mode.Bracket.TheVariants.{Array, Object}
 use Rattle.fk_json.specs.declared.mode.Mode.{Mode}
 use Rattle.fk_json.specs.declared.mode.Mode.TheVariants.{First, Next, Naming, Colon, Value, Within, After}
-use Rattle.fk_json.specs.declared.mode.Move.{Move}
-use Rattle.fk_json.specs.declared.mode.Move.TheVariants.{To}
+use Rattle.fk_json.specs.Moves.{Move}
+use Rattle.fk_json.specs.Moves.{To}
 use Rattle.fk_json.specs.declared.string_mode.StringMode.{StringMode}
 use Rattle.fk_json.specs.Reached.{IsNamed}
 use Rattle.fk_json.proofs.ValueSteps.{MoveLeft}

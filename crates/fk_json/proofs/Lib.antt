@@ -49,6 +49,7 @@ pub mod ReadingOn
 pub mod Readings
 pub mod Passing
 pub mod Places
+pub mod Direct
 pub mod ReadTo
 pub mod Staying
 pub mod MemberPlaces

@@ -1,13 +1,13 @@
 -- Bytes that are read at once: their steps, one after another.
-use Rattle.std.proofs.Common.{◌≡◌, ℕ, zero, suc, ◌+◌, ◌-◌, ◌≤◌, ◌<◌, Bool, true, false, not, ◌&&◌, ◌==◌, nat_lt, cond, if◌then◌else◌, List, [], ◌∷◌, ◌++◌, length, take, drop, slice_index_or, Option, None, Some, refl, sym, ap, subst, ◌∙◌, arith, length-drop}
+use Rattle.std.proofs.Common.{◌≡◌, ℕ, zero, suc, ◌+◌, ◌-◌, ◌≤◌, ◌<◌, Bool, true, false, not, ◌&&◌, ◌==◌, nat_lt, cond, if◌then◌else◌, List, [], ◌∷◌, ◌++◌, length, take, drop, slice_index_or, Option, None, Some, refl, sym, ap, subst, ◌∙◌, arith, get_or-drop, length-drop}
 use Rattle.std.proofs.Math.Seq.{drop-cons, take-add}
 use Rattle.std.proofs.lemmas.Bool.{false≢true}
 use Rattle.std.proofs.lemmas.List.{drop-drop}
-use Rattle.std.proofs.lemmas.List.Sums.{prefix_len-le-length}
+use Rattle.std.proofs.lemmas.List.Sums.{prefix_len-le-length, prefix_len_stops}
 use Rattle.std.specs.List.{prefix_len}
 use Rattle.std.specs.Option.{option_and_then, option_map}
-use Rattle.fk_json.specs.Runs.{Passes, is_plain, through}
-use Rattle.fk_json.specs.Tokens.{character_first, string_step}
+use Rattle.fk_json.specs.Runs.{Passes, RunsTo, is_plain, through}
+use Rattle.fk_json.specs.Tokens.{character_first, string_step, when}
 use Rattle.fk_json.specs.declared.string_mode.StringMode.{StringMode}
 use Rattle.fk_json.specs.declared.string_mode.StringMode.TheVariants.{Inside, Escape, Closed}
 
@@ -76,6 +76,14 @@ passes_byte step text at mode next l e = record {
 }
 
 -- ---- bytes at which the mode stays
+
+stops_there : (test : ℕ → Bool) (text : List ℕ) (at to : ℕ) → at ≤ length text
+    → to ≡ at + prefix_len test (drop at text) → to < length text → test (slice_index_or text to 0) ≡ false
+stops_there test text at to l e inside =
+    let n = prefix_len test (drop at text) in
+    let short : n < length (drop at text) = omega (arith, length-drop at text, e, inside, l) in
+    let there : slice_index_or (drop at text) n 0 ≡ slice_index_or text (at + n) 0 = get_or-drop at text n 0 in
+    ap (λ k. test (slice_index_or text k 0)) e ∙ ap test (sym there) ∙ prefix_len_stops test (drop at text) 0 short
 
 kept_first : {S : Type 0} (step : S → ℕ → Option S) (mode : S) (x n : ℕ) (xs : List ℕ) (passes : Bool)
     → (passes ≡ true → step mode x ≡ Some mode) → through step mode (take n xs) ≡ Some mode
@@ -149,10 +157,26 @@ passes_map f step wider text from to mode next same passes = record {
   leads = sym (through_map f step wider same (range text from to) mode) ∙ ap (λ o. option_map f o) passes.leads;
 }
 
-pub passes_part : {S T : Type 0} (f : S → T) (step : S → ℕ → Option S) (wider : T → ℕ → Option T)
+mapped_none : {S T : Type 0} (f : S → T) (led : Option S) → led ≡ None → option_map f led ≡ None
+mapped_none f led e = ap (λ o. option_map f o) e
+
+-- a part runs as far as the whole
+pub runs_part : {S T : Type 0} (f : S → T) (step : S → ℕ → Option S) (wider : T → ℕ → Option T)
     (text : List ℕ) (from to : ℕ) (whole : T) (mode next : S) → whole ≡ f mode
     → ((mode : S) (byte : ℕ) → wider (f mode) byte ≡ option_map f (step mode byte))
-    → Passes step text from mode to next → Passes wider text from whole to (f next)
-passes_part f step wider text from to whole mode next is same passes =
-    subst (λ x. Passes wider text from x to (f next)) (sym is)
-    (passes_map f step wider text from to mode next same passes)
+    → RunsTo step text from mode to next → RunsTo wider text from whole to (f next)
+runs_part f step wider text from to whole mode next is same runs = record {
+  passes =
+      subst (λ x. Passes wider text from x to (f next)) (sym is)
+      (passes_map f step wider text from to mode next same runs.passes);
+  ends = λ l. same next (slice_index_or text to 0) ∙ mapped_none f (step next (slice_index_or text to 0)) (runs.ends l);
+}
+
+-- a run of bytes at which the mode stays ends where one of another kind comes
+pub runs_kept : {S : Type 0} (step : S → ℕ → Option S) (test : ℕ → Bool) (text : List ℕ) (at to : ℕ) (mode : S)
+    → ((byte : ℕ) → step mode byte ≡ when (test byte) mode) → at ≤ length text
+    → to ≡ at + prefix_len test (drop at text) → RunsTo step text at mode to mode
+runs_kept step test text at to mode keeps l e = record {
+  passes = passes_kept step test text at to mode (λ byte h. keeps byte ∙ ap (λ t. when t mode) h) l e;
+  ends = λ inside. keeps (slice_index_or text to 0) ∙ ap (λ t. when t mode) (stops_there test text at to l e inside);
+}

@@ -12,8 +12,8 @@ use Rattle.fk_json.specs.declared.mode.Bracket.{Bracket}
 use Rattle.fk_json.specs.declared.mode.Bracket.TheVariants.{Array, Object}
 use Rattle.fk_json.specs.declared.mode.Mode.{Mode}
 use Rattle.fk_json.specs.declared.mode.Mode.TheVariants.{First, Naming, Within}
-use Rattle.fk_json.specs.declared.mode.Move.{Move}
-use Rattle.fk_json.specs.declared.mode.Move.TheVariants.{To, Names, Begins}
+use Rattle.fk_json.specs.Moves.{Move}
+use Rattle.fk_json.specs.Moves.{To, Names, Begins}
 use Rattle.fk_json.specs.declared.standing.Found.{Found}
 use Rattle.fk_json.specs.declared.standing.Places.{Places}
 use Rattle.fk_json.specs.declared.standing.Region.TheVariants.{Between}

@@ -12,7 +12,7 @@ use Rattle.fk_json.specs.declared.cursor.Cursor.{Cursor}
 use Rattle.fk_json.specs.declared.mode.Bracket.{Bracket}
 use Rattle.fk_json.specs.declared.mode.Mode.{Mode}
 use Rattle.fk_json.specs.declared.mode.Mode.TheVariants.{First, Next, Naming, Colon, Value, Within, After}
-use Rattle.fk_json.specs.declared.mode.Move.TheVariants.{To}
+use Rattle.fk_json.specs.Moves.{To}
 use Rattle.fk_json.specs.declared.standing.Places.{Places}
 use Rattle.fk_json.specs.declared.standing.Region.{Region}
 use Rattle.fk_json.specs.declared.standing.Region.TheVariants.{Before, Between, Behind}
@@ -25,24 +25,24 @@ use Rattle.fk_json.proofs.ReadTo.{ReadsOn, read_past}
 
 pub space_between : (mode : Mode)
     → (mode ≡ First) ⊎ ((mode ≡ Next) ⊎ ((mode ≡ Colon) ⊎ ((mode ≡ Value) ⊎ (mode ≡ After))))
-    → (byte : ℕ) → is_space byte ≡ true → stays_between mode byte ≡ Some mode
-space_between mode (inl is) byte e =
-    subst (λ m. stays_between m byte ≡ Some m) (sym is) (ap (λ t. when t First) e)
-space_between mode (inr (inl is)) byte e =
-    subst (λ m. stays_between m byte ≡ Some m) (sym is) (ap (λ t. when t Next) e)
-space_between mode (inr (inr (inl is))) byte e =
-    subst (λ m. stays_between m byte ≡ Some m) (sym is) (ap (λ t. when t Colon) e)
-space_between mode (inr (inr (inr (inl is)))) byte e =
-    subst (λ m. stays_between m byte ≡ Some m) (sym is) (ap (λ t. when t Value) e)
-space_between mode (inr (inr (inr (inr is)))) byte e =
-    subst (λ m. stays_between m byte ≡ Some m) (sym is) (ap (λ t. when t After) e)
+    → (byte : ℕ) → stays_between mode byte ≡ when (is_space byte) mode
+space_between mode (inl is) byte =
+    subst (λ m. stays_between m byte ≡ when (is_space byte) m) (sym is) refl
+space_between mode (inr (inl is)) byte =
+    subst (λ m. stays_between m byte ≡ when (is_space byte) m) (sym is) refl
+space_between mode (inr (inr (inl is))) byte =
+    subst (λ m. stays_between m byte ≡ when (is_space byte) m) (sym is) refl
+space_between mode (inr (inr (inr (inl is)))) byte =
+    subst (λ m. stays_between m byte ≡ when (is_space byte) m) (sym is) refl
+space_between mode (inr (inr (inr (inr is)))) byte =
+    subst (λ m. stays_between m byte ≡ when (is_space byte) m) (sym is) refl
 
-pub space_around : (region : Region) → (region ≡ Before) ⊎ (region ≡ Behind) → (byte : ℕ) → is_space byte ≡ true
-    → stays region byte ≡ Some region
-space_around region (inl is) byte e =
-    subst (λ r. stays r byte ≡ Some r) (sym is) (ap (λ t. when t Before) e)
-space_around region (inr is) byte e =
-    subst (λ r. stays r byte ≡ Some r) (sym is) (ap (λ t. when t Behind) e)
+pub space_around : (region : Region) → (region ≡ Before) ⊎ (region ≡ Behind) → (byte : ℕ)
+    → stays region byte ≡ when (is_space byte) region
+space_around region (inl is) byte =
+    subst (λ r. stays r byte ≡ when (is_space byte) r) (sym is) refl
+space_around region (inr is) byte =
+    subst (λ r. stays r byte ≡ when (is_space byte) r) (sym is) refl
 
 -- ---- what stays leads on, and no item ends
 
@@ -131,6 +131,11 @@ reads_through outer text cursor (suc count) at region next inner places l so_far
     (record { region = middle; inner = inner; places = places }) inside so_far
     (stays_reads outer region middle inner places at byte is))
     (ap (λ n. through stays middle (take count (drop n text))) (add-one at) ∙ rest)))
+
+-- nothing was read
+pub read_none : (outer : Bracket) (text : List ℕ) (cursor : Cursor)
+    → ReadsOn outer text cursor cursor.at cursor.standing
+read_none outer text cursor = record { begun = omega arith; reads = λ found there. there }
 
 -- the bytes from a cursor to a place were read, and then those that stay
 pub reads_run : (outer : Bracket) (text : List ℕ) (cursor : Cursor) (from to : ℕ) (standing last : Standing)

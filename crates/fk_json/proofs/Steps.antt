@@ -11,7 +11,7 @@ use Rattle.fk_json.specs.declared.mode.Bracket.{Bracket}
 use Rattle.fk_json.specs.declared.mode.Bracket.TheVariants.{Array, Object}
 use Rattle.fk_json.specs.declared.mode.Mode.{Mode}
 use Rattle.fk_json.specs.declared.mode.Mode.TheVariants.{First, Next, Naming, Colon, Value, Within, After}
-use Rattle.fk_json.specs.declared.mode.Move.TheVariants.{To, Stops}
+use Rattle.fk_json.specs.Moves.{To, Stops}
 use Rattle.fk_json.specs.Reached.{IsNamed}
 use Rattle.fk_json.proofs.Fronts.{after_empty, colon_empty, name_empty, within_empty}
 use Rattle.fk_json.proofs.Spaces.{byte_else, byte_on, spaced_nil, spaced_none, spaced_on}

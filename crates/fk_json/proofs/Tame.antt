@@ -9,8 +9,8 @@ use Rattle.fk_json.specs.declared.mode.Bracket.{Bracket}
 use Rattle.fk_json.specs.declared.mode.Bracket.TheVariants.{Array, Object}
 use Rattle.fk_json.specs.declared.mode.Mode.{Mode}
 use Rattle.fk_json.specs.declared.mode.Mode.TheVariants.{First, Next, Naming, Colon, Value, Within, After}
-use Rattle.fk_json.specs.declared.mode.Move.{Move}
-use Rattle.fk_json.specs.declared.mode.Move.TheVariants.{To, Names, Begins, Opens, Closes, Named, Ended, Stops}
+use Rattle.fk_json.specs.Moves.{Move}
+use Rattle.fk_json.specs.Moves.{To, Names, Begins, Opens, Closes, Named, Ended, Stops}
 use Rattle.fk_json.specs.declared.string_mode.StringMode.{StringMode}
 use Rattle.fk_json.specs.declared.token.Token.{Token}
 use Rattle.fk_json.specs.Reached.{IsPast}

@@ -8,7 +8,7 @@ use Rattle.fk_json.specs.declared.mode.Bracket.{Bracket}
 use Rattle.fk_json.specs.declared.mode.Bracket.TheVariants.{Array, Object}
 use Rattle.fk_json.specs.declared.mode.Mode.{Mode}
 use Rattle.fk_json.specs.declared.mode.Mode.TheVariants.{First, Next, Naming, Colon, Value, Within, After}
-use Rattle.fk_json.specs.declared.mode.Move.TheVariants.{Ended}
+use Rattle.fk_json.specs.Moves.{Ended}
 use Rattle.fk_json.specs.declared.standing.Places.{Places}
 use Rattle.fk_json.specs.Reached.{Finds, IsPast, KnownBetween}
 use Rattle.fk_json.proofs.Leads.{BetweenLeft, MovedLeft, between_moves}

@@ -10,8 +10,8 @@ use Rattle.fk_json.specs.Left.{Frame, IsItem, Item, ModeLeft, NameLeft, Pending,
 use Rattle.fk_json.specs.declared.member.Member.{Member}
 use Rattle.fk_json.specs.declared.mode.Bracket.{Bracket}
 use Rattle.fk_json.specs.declared.mode.Bracket.TheVariants.{Array, Object}
-use Rattle.fk_json.specs.declared.mode.Move.{Move}
-use Rattle.fk_json.specs.declared.mode.Move.TheVariants.{To, Names, Begins, Opens, Closes, Named, Ended, Stops}
+use Rattle.fk_json.specs.Moves.{Move}
+use Rattle.fk_json.specs.Moves.{To, Names, Begins, Opens, Closes, Named, Ended, Stops}
 use Rattle.fk_json.specs.declared.string_mode.StringMode.{StringMode}
 use Rattle.fk_json.specs.declared.token.Token.{Token}
 use Rattle.fk_json.proofs.Fronts.{Closing, EndedLeft, EndedName, after_follows, name_ended, name_on, within_ended, within_on, within_stops}

@@ -8,8 +8,19 @@ use Rattle.fk_json.specs.declared.mode.Bracket.{Bracket}
 use Rattle.fk_json.specs.declared.mode.Bracket.TheVariants.{Array, Object}
 use Rattle.fk_json.specs.declared.mode.Mode.{Mode}
 use Rattle.fk_json.specs.declared.mode.Mode.TheVariants.{First, Next, Naming, Colon, Value, Within, After}
-use Rattle.fk_json.specs.declared.mode.Move.{Move}
-use Rattle.fk_json.specs.declared.mode.Move.TheVariants.{To, Names, Begins, Opens, Closes, Named, Ended, Stops}
+
+-- It leads to a mode; it is the quote in front of a name, the first byte of a value without brackets
+-- or of one in brackets, or the closing bracket; it stands behind the name or the value, which ended
+-- before it; it can't stand there.
+pub data Move : Type 0 where
+  To : Mode → Move
+  Names : Move
+  Begins : Token → Move
+  Opens : Bracket → Move
+  Closes : Move
+  Named : Move
+  Ended : Move
+  Stops : Move
 
 abbrev pub closing : Bracket → ℕ
 closing Array = 93
@@ -51,6 +62,13 @@ abbrev pub item_at : Bracket → ℕ → Move
 item_at Array b = value_at b
 item_at Object b = if b == 34 then Names else Stops
 
+-- behind the opening bracket
+abbrev pub first_at : Bracket → ℕ → Move
+first_at bracket b = if b == closing bracket then Closes else item_at bracket b
+
+abbrev pub colon_at : ℕ → Move
+colon_at b = if b == 58 then To Value else Stops
+
 -- behind an item
 abbrev pub behind_item : Bracket → ℕ → Move
 behind_item bracket b =
@@ -60,10 +78,10 @@ behind_item bracket b =
 
 -- what a byte does that isn't white space
 abbrev pub core_move : Bracket → Mode → ℕ → Move
-core_move bracket First b = if b == closing bracket then Closes else item_at bracket b
+core_move bracket First b = first_at bracket b
 core_move bracket Next b = item_at bracket b
 core_move bracket (Naming name) b = name_goes name b
-core_move bracket Colon b = if b == 58 then To Value else Stops
+core_move bracket Colon b = colon_at b
 core_move bracket Value b = value_at b
 core_move bracket (Within token) b = value_goes token b
 core_move bracket After b = behind_item bracket b
@@ -73,6 +91,13 @@ abbrev pub move_of : Bracket → Mode → ℕ → Move
 move_of bracket (Naming name) b = name_goes name b
 move_of bracket (Within token) b = value_goes token b
 move_of bracket mode b = if is_space b then To mode else core_move bracket mode b
+
+-- behind a name, and behind a value, which may end at any byte
+abbrev pub behind_name : ℕ → Move
+behind_name b = if is_space b then To Colon else colon_at b
+
+abbrev pub behind_value : Bracket → ℕ → Move
+behind_value bracket b = if is_space b then To After else behind_item bracket b
 
 -- ---- brackets in brackets
 

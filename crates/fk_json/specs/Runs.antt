@@ -1,6 +1,6 @@
 -- Bytes that are read at once: how they lead on inside of one token, or in the white space between
 -- two.
-use Rattle.std.specs.Prelude.{◌≡◌, ◌&&◌, ℕ, ◌≤◌, Bool, nat_lt, List, [], ◌∷◌, length, option_map, slice_range, Option, None, Some}
+use Rattle.std.specs.Prelude.{◌≡◌, ◌&&◌, ℕ, ◌≤◌, ◌<◌, Bool, nat_lt, List, [], ◌∷◌, length, option_map, slice_index, slice_range, Option, None, Some}
 use Rattle.std.specs.Option.{option_and_then}
 use Rattle.fk_json.specs.Json.{is_space}
 use Rattle.fk_json.specs.String.{is_itself}
@@ -23,6 +23,12 @@ pub record Passes {S : Type 0}
   pub onward : from ≤ to
   pub within : to ≤ length text
   pub leads : through step mode (slice_range text from to) ≡ Some next
+
+-- and no further
+pub record RunsTo {S : Type 0}
+    (step : S → ℕ → Option S) (text : List ℕ) (from : ℕ) (mode : S) (to : ℕ) (next : S) : Type 0 where
+  pub passes : Passes step text from mode to next
+  pub ends : to < length text → step next (slice_index text to) ≡ None
 
 -- a byte that stands for itself in a string, and is a character of its own
 abbrev pub is_plain : ℕ → Bool

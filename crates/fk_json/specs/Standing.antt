@@ -5,8 +5,8 @@ use Rattle.fk_json.specs.Moves.{innermost, most_inner, move_of, opening}
 use Rattle.fk_json.specs.declared.mode.Bracket.{Bracket}
 use Rattle.fk_json.specs.declared.mode.Mode.{Mode}
 use Rattle.fk_json.specs.declared.mode.Mode.TheVariants.{First, Naming, Colon, Within, After}
-use Rattle.fk_json.specs.declared.mode.Move.{Move}
-use Rattle.fk_json.specs.declared.mode.Move.TheVariants.{To, Names, Begins, Opens, Closes, Named, Ended, Stops}
+use Rattle.fk_json.specs.Moves.{Move}
+use Rattle.fk_json.specs.Moves.{To, Names, Begins, Opens, Closes, Named, Ended, Stops}
 use Rattle.fk_json.specs.declared.standing.Places.{Places}
 use Rattle.fk_json.specs.declared.standing.Found.{Found}
 use Rattle.fk_json.specs.declared.standing.Region.{Region}

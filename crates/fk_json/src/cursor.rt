@@ -1,10 +1,11 @@
 // A text of one object or one array, read from one item to the next.
-ghost use Rattle.std.specs.Prelude.{◌≡◌, ◌+◌, ◌-◌, ◌<◌, ◌^◌, List, length, IfErr, IfOk};
+ghost use Rattle.std.specs.Prelude.{◌≡◌, ◌+◌, ◌-◌, ◌<◌, ◌≤◌, ◌^◌, List, length, IfErr, IfOk};
 ghost use Rattle.fk_json.specs.Json.{Faults};
 ghost use Rattle.fk_json.specs.Left.{Item};
 ghost use Rattle.fk_json.specs.Cursors.{GoesFarther, LeadsTo};
 ghost use Rattle.fk_json.specs.Reached.{IsReadTo};
 ghost use Rattle.fk_json.specs.Remainder.{IsTextOf};
+ghost use Rattle.fk_json.specs.Runs.{RunsTo, stays};
 ghost use Rattle.fk_json.specs.Standing.{first_standing};
 
 use crate::JsonFault;
@@ -41,21 +42,18 @@ pub(crate) fn first_cursor() -> Cursor
 
 /// Reads on to the end of the next item.
 pub(crate) fn next_found(outer: Bracket, text: &[u8], cursor: Cursor) -> Result<Next, JsonFault>
+    requires { cursor.at ≤ length text.now }
     ensures ok { IfOk result (λ next. LeadsTo outer text.now cursor next) }
     ensures farther { IfOk result (λ next. GoesFarther (length text.now) cursor next) }
     ensures fault { IfErr result (λ fault. (found : List (Item outer))
         → IsReadTo outer text.now cursor.at found cursor.standing
         → Faults (IsTextOf outer) text.now fault) }
 {
-    let mut at = cursor.at;
     let mut standing = cursor.standing;
+    let mut at = pass_run(text, cursor.at, &mut standing);
     'tokens: while at < text.len() {
         match read(outer, &mut standing, at, text[at]) {
-            Led::On(None) => {
-                let run = region_run(text, at + 1, standing.region);
-                standing.region = run.mode;
-                at = run.to;
-            }
+            Led::On(None) => at = pass_run(text, at + 1, &mut standing),
             Led::On(Some(found)) => return Ok(Next::Found(found, behind(at, standing))),
             Led::TooDeep => return Err(JsonFault::TooDeep(at)),
             Led::Stops => return Err(JsonFault::Syntax(at)),
@@ -66,6 +64,17 @@ pub(crate) fn next_found(outer: Bracket, text: &[u8], cursor: Cursor) -> Result<
     } else {
         Err(JsonFault::Syntax(text.len()))
     }
+}
+
+// Reads on to the end of a token or of white space, and answers where that is.
+fn pass_run(text: &[u8], from: usize, standing: &mut Standing) -> usize
+    requires { from ≤ length text.now }
+    ensures run { RunsTo stays text.now from standing.old.region result standing.new.region }
+    ensures kept { standing.new ≡ record standing.old { region = standing.new.region } }
+{
+    let run = region_run(text, from, standing.region);
+    standing.region = run.mode;
+    run.to
 }
 
 // The cursor behind the byte at a place.

@@ -1,6 +1,7 @@
 //! Texts as lists of bytes, and JSON read with the places of its parts.
 #![tactic(auto)]
 
+mod border;
 mod brackets;
 mod cursor;
 mod ends;

@@ -1,6 +1,6 @@
 // Bytes that are read at once: the rest of a token, and white space between two.
 ghost use Rattle.std.specs.Prelude.{◌≤◌, length};
-ghost use Rattle.fk_json.specs.Runs.{Passes, stays, stays_between};
+ghost use Rattle.fk_json.specs.Runs.{Passes, RunsTo, stays, stays_between};
 ghost use Rattle.fk_json.specs.Tokens.{letters_step, number_step, string_step, token_step};
 
 use crate::ends::{plain_end, space_end};
@@ -20,7 +20,7 @@ pub(crate) struct Run<M> {
 /// Reads on to the end of a name, of a value without brackets, or of white space.
 pub(crate) fn region_run(text: &[u8], from: usize, region: Region) -> Run<Region>
     requires { from ≤ length text.now }
-    ensures { Passes stays text.now from region result.to result.mode }
+    ensures { RunsTo stays text.now from region result.to result.mode }
 {
     match region {
         Region::Between(mode) => {
@@ -39,7 +39,7 @@ pub(crate) fn region_run(text: &[u8], from: usize, region: Region) -> Run<Region
 
 fn mode_run(text: &[u8], from: usize, mode: Mode) -> Run<Mode>
     requires { from ≤ length text.now }
-    ensures { Passes stays_between text.now from mode result.to result.mode }
+    ensures { RunsTo stays_between text.now from mode result.to result.mode }
 {
     match mode {
         Mode::Naming(name) => {
@@ -66,7 +66,7 @@ fn mode_run(text: &[u8], from: usize, mode: Mode) -> Run<Mode>
 // Reads on to the end of a value without brackets.
 fn token_run(text: &[u8], from: usize, token: Token) -> Run<Token>
     requires { from ≤ length text.now }
-    ensures { Passes token_step text.now from token result.to result.mode }
+    ensures { RunsTo token_step text.now from token result.to result.mode }
 {
     match token {
         Token::Number(mode) => {
@@ -100,7 +100,7 @@ fn token_run(text: &[u8], from: usize, token: Token) -> Run<Token>
 // Reads on to the end of a string.
 fn string_run(text: &[u8], from: usize, mode: StringMode) -> Run<StringMode>
     requires { from ≤ length text.now }
-    ensures { Passes string_step text.now from mode result.to result.mode }
+    ensures { RunsTo string_step text.now from mode result.to result.mode }
 {
     let mut to = from;
     let mut mode = mode;
@@ -130,7 +130,7 @@ fn behind_run(text: &[u8], from: usize, mode: StringMode) -> usize
 // Reads on to the end of a number.
 fn number_run(text: &[u8], from: usize, mode: NumberMode) -> Run<NumberMode>
     requires { from ≤ length text.now }
-    ensures { Passes number_step text.now from mode result.to result.mode }
+    ensures { RunsTo number_step text.now from mode result.to result.mode }
 {
     let mut to = from;
     let mut mode = mode;
@@ -149,7 +149,7 @@ fn number_run(text: &[u8], from: usize, mode: NumberMode) -> Run<NumberMode>
 // Reads on to the end of `null`, `true` or `false`.
 fn letters_run(text: &[u8], from: usize, left: Letters) -> Run<Letters>
     requires { from ≤ length text.now }
-    ensures { Passes letters_step text.now from left result.to result.mode }
+    ensures { RunsTo letters_step text.now from left result.to result.mode }
 {
     let mut to = from;
     let mut left = left;

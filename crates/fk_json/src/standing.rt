@@ -1,11 +1,13 @@
 // Where a scan stands in a text, and how a byte leads on (RFC 8259, section 2).
-ghost use Rattle.std.specs.Prelude.{◌≡◌};
-ghost use Rattle.fk_json.specs.Standing.{before, begun_at, behind, between, between_by, closed, ended_at, first_standing, is_whole, moved, named_at, names_at, opened, read};
+ghost use Rattle.std.specs.Prelude.{◌≡◌, false, None};
+ghost use Rattle.fk_json.specs.Json.{is_space};
+ghost use Rattle.fk_json.specs.Runs.{stays};
+ghost use Rattle.fk_json.specs.Standing.{before, begun_at, closed, ended_at, first_standing, is_whole, named_at, names_at, opened, read};
 ghost use Rattle.fk_json.specs.Step.{gives};
 
+use crate::border::between;
 use crate::brackets::Brackets;
-use crate::mode::{Bracket, Mode, Move, is_space, move_of, opening};
-use crate::string_mode::StringMode;
+use crate::mode::{Bracket, Mode, opening};
 use crate::token::Token;
 
 /// Where the item that is being read stands: its name with the quotes, and where its value begins.
@@ -65,14 +67,19 @@ pub(crate) fn first_standing() -> Standing
     }
 }
 
-/// Reads the byte at a place.
+/// Reads the byte at a place, which doesn't lead on inside of what stands before it: it ends a token,
+/// or stands behind one.
 pub(crate) fn read(outer: Bracket, standing: &mut Standing, at: usize, byte: u8) -> Led
+    requires { stays standing.old.region byte ≡ None }
     ensures { gives result standing.new ≡ read outer standing.old at byte }
 {
     match standing.region {
         Region::Before => before(outer, standing, byte),
-        Region::Between(mode) => between(outer, standing, mode, at, byte),
-        Region::Behind => behind(standing, byte),
+        Region::Between(mode) => {
+            let bracket = standing.inner.innermost(outer);
+            between(bracket, standing, mode, at, byte)
+        }
+        Region::Behind => Led::Stops,
     }
 }
 
@@ -86,12 +93,12 @@ pub(crate) fn is_whole(standing: &Standing) -> bool
     }
 }
 
+// The outermost brackets open.
 fn before(outer: Bracket, standing: &mut Standing, byte: u8) -> Led
+    requires { is_space byte ≡ false }
     ensures { gives result standing.new ≡ before outer standing.old byte }
 {
-    if is_space(byte) {
-        Led::On(None)
-    } else if byte == opening(outer) {
+    if byte == opening(outer) {
         standing.region = Region::Between(Mode::First);
         Led::On(None)
     } else {
@@ -99,42 +106,8 @@ fn before(outer: Bracket, standing: &mut Standing, byte: u8) -> Led
     }
 }
 
-fn behind(standing: &mut Standing, byte: u8) -> Led
-    ensures { gives result standing.new ≡ behind standing.old byte }
-{
-    if is_space(byte) {
-        Led::On(None)
-    } else {
-        Led::Stops
-    }
-}
-
-// Between the outermost brackets. A byte that stands behind a name or a value has ended it.
-fn between(outer: Bracket, standing: &mut Standing, mode: Mode, at: usize, byte: u8) -> Led
-    ensures { gives result standing.new ≡ between outer standing.old mode at byte }
-{
-    let bracket = standing.inner.innermost(outer);
-    between_by(bracket, standing, at, byte, move_of(bracket, mode, byte))
-}
-
-fn between_by(bracket: Bracket, standing: &mut Standing, at: usize, byte: u8, led: Move) -> Led
-    ensures { gives result standing.new ≡ between_by bracket standing.old at byte led }
-{
-    match led {
-        Move::Named => {
-            named_at(standing, at);
-            moved(standing, None, at, move_of(bracket, Mode::Colon, byte))
-        }
-        Move::Ended => {
-            let found = ended_at(standing, at);
-            moved(standing, found, at, move_of(bracket, Mode::After, byte))
-        }
-        other => moved(standing, None, at, other),
-    }
-}
-
-// The name has ended.
-fn named_at(standing: &mut Standing, at: usize)
+/// The name has ended.
+pub(crate) fn named_at(standing: &mut Standing, at: usize)
     ensures { standing.new ≡ named_at standing.old at }
 {
     if standing.inner.is_empty() {
@@ -142,8 +115,8 @@ fn named_at(standing: &mut Standing, at: usize)
     }
 }
 
-// The item whose value has ended, where it stands between the outermost brackets.
-fn ended_at(standing: &Standing, at: usize) -> Option<Found>
+/// The item whose value has ended, where it stands between the outermost brackets.
+pub(crate) fn ended_at(standing: &Standing, at: usize) -> Option<Found>
     ensures { result ≡ ended_at standing.now at }
 {
     if !standing.inner.is_empty() {
@@ -155,8 +128,8 @@ fn ended_at(standing: &Standing, at: usize) -> Option<Found>
     })
 }
 
-// A name begins.
-fn names_at(standing: &mut Standing, at: usize)
+/// A name begins.
+pub(crate) fn names_at(standing: &mut Standing, at: usize)
     ensures { standing.new ≡ names_at standing.old at }
 {
     if standing.inner.is_empty() {
@@ -164,8 +137,8 @@ fn names_at(standing: &mut Standing, at: usize)
     }
 }
 
-// A value begins.
-fn begun_at(standing: &mut Standing, at: usize)
+/// A value begins.
+pub(crate) fn begun_at(standing: &mut Standing, at: usize)
     ensures { standing.new ≡ begun_at standing.old at }
 {
     if standing.inner.is_empty() {
@@ -173,49 +146,21 @@ fn begun_at(standing: &mut Standing, at: usize)
     }
 }
 
-// Where a move leads.
-fn moved(standing: &mut Standing, found: Option<Found>, at: usize, led: Move) -> Led
-    ensures { gives result standing.new ≡ moved standing.old found at led }
+/// A value in brackets begins.
+pub(crate) fn opened(standing: &mut Standing, at: usize, bracket: Bracket) -> Led
+    ensures { gives result standing.new ≡ opened (begun_at standing.old at) None bracket }
 {
-    match led {
-        Move::To(mode) => {
-            standing.region = Region::Between(mode);
-            Led::On(found)
-        }
-        Move::Names => {
-            names_at(standing, at);
-            standing.region = Region::Between(Mode::Naming(StringMode::Inside));
-            Led::On(found)
-        }
-        Move::Begins(token) => {
-            begun_at(standing, at);
-            standing.region = Region::Between(Mode::Within(token));
-            Led::On(found)
-        }
-        Move::Opens(bracket) => {
-            begun_at(standing, at);
-            opened(standing, found, bracket)
-        }
-        Move::Closes => {
-            closed(standing);
-            Led::On(found)
-        }
-        Move::Named | Move::Ended | Move::Stops => Led::Stops,
-    }
-}
-
-fn opened(standing: &mut Standing, found: Option<Found>, bracket: Bracket) -> Led
-    ensures { gives result standing.new ≡ opened standing.old found bracket }
-{
+    begun_at(standing, at);
     if standing.inner.is_full() {
         return Led::TooDeep;
     }
     standing.region = Region::Between(Mode::First);
     standing.inner = standing.inner.push(bracket);
-    Led::On(found)
+    Led::On(None)
 }
 
-fn closed(standing: &mut Standing)
+/// The innermost brackets end.
+pub(crate) fn closed(standing: &mut Standing)
     ensures { standing.new ≡ closed standing.old }
 {
     match standing.inner.pop() {
