@@ -1,9 +1,9 @@
 // Values without brackets, read byte by byte (RFC 8259, sections 3, 6 and 7).
 ghost use Rattle.std.specs.Prelude.{◌≡◌};
-ghost use Rattle.fk_json.specs.Tokens.{letters_end, letters_step, token_ends, token_first, token_step};
+ghost use Rattle.fk_json.specs.Tokens.{letters_end, letters_step, token_ends, token_first};
 
-use crate::number_mode::{NumberMode, number_ends, number_first, number_step};
-use crate::string_mode::{StringMode, string_ends, string_step};
+use crate::number_mode::{NumberMode, number_ends, number_first};
+use crate::string_mode::{StringMode, string_ends};
 
 /// What is left of `null`, `true` or `false`.
 #[derive(Clone, Copy)]
@@ -42,18 +42,7 @@ pub(crate) fn token_first(byte: u8) -> Option<Token>
     }
 }
 
-/// Where one more byte of the value leads.
-pub(crate) fn token_step(token: Token, byte: u8) -> Option<Token>
-    ensures { result ≡ token_step token byte }
-{
-    match token {
-        Token::Number(mode) => Some(Token::Number(number_step(mode, byte)?)),
-        Token::Quoted(mode) => Some(Token::Quoted(string_step(mode, byte)?)),
-        Token::Letters(left) => Some(Token::Letters(letters_step(left, byte)?)),
-        Token::Bracketed => None,
-    }
-}
-
+/// Where one more byte of the letters leads.
 pub(crate) fn letters_step(left: Letters, byte: u8) -> Option<Letters>
     ensures { result ≡ letters_step left byte }
 {
