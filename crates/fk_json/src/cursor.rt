@@ -49,20 +49,23 @@ pub(crate) fn next_found(outer: Bracket, text: &[u8], cursor: Cursor) -> Result<
         → IsReadTo outer text.now cursor.at found cursor.standing
         → Faults (IsTextOf outer) text.now fault) }
 {
+    let mut at = cursor.at;
     let mut standing = cursor.standing;
-    let mut at = pass_run(text, cursor.at, &mut standing);
-    'tokens: while at < text.len() {
+    'tokens: loop {
+        at = pass_run(text, at, &mut standing);
+        if at == text.len() {
+            return if is_whole(&standing) {
+                Ok(Next::End)
+            } else {
+                Err(JsonFault::Syntax(text.len()))
+            };
+        }
         match read(outer, &mut standing, at, text[at]) {
-            Led::On(None) => at = pass_run(text, at + 1, &mut standing),
+            Led::On(None) => at += 1,
             Led::On(Some(found)) => return Ok(Next::Found(found, behind(at, standing))),
             Led::TooDeep => return Err(JsonFault::TooDeep(at)),
             Led::Stops => return Err(JsonFault::Syntax(at)),
         }
-    }
-    if is_whole(&standing) {
-        Ok(Next::End)
-    } else {
-        Err(JsonFault::Syntax(text.len()))
     }
 }
 
