@@ -4,13 +4,10 @@ ghost use Rattle.fk_job.specs.Spellings.{HasJobSpelling, IsText};
 ghost use Rattle.fk_model.specs.Range.{AreJobs, IsFilter, IsInRange};
 ghost use Rattle.fk_model.specs.Spellings.{AreTexts};
 
-use crate::spelling::{are_texts, has_job_spelling, is_text};
+use crate::spelling::{TEXT_LIMIT, are_texts, has_job_spelling, is_text};
 use crate::{Ask, Batch, Filter};
 use fk_job::Jobs;
 use fk_json::{Text, Texts};
-
-/// A list of jobs has fewer items than this.
-const JOBS_LIMIT: usize = 4_294_967_296;
 
 impl Ask {
     /// Whether each job, each text and each list of the ask is within its bounds, so that a turn may
@@ -54,7 +51,7 @@ fn are_jobs(jobs: &Batch) -> bool
     ensures { IsTrue result ↔ AreJobs jobs.now }
 {
     let jobs = jobs.jobs();
-    jobs.len() < JOBS_LIMIT && are_spelled(jobs)
+    jobs.len() < TEXT_LIMIT && are_spelled(jobs)
 }
 
 /// Whether a file can hold each of the jobs.

@@ -28,5 +28,6 @@ pub use moves::Moves;
 pub use mutation::{Cmd, Filter, Target};
 pub use place::Place;
 pub use row::Row;
+pub use spelling::TEXT_LIMIT;
 pub use told::{Compaction, Told};
 pub use work_state::WorkState;

@@ -11,7 +11,7 @@ use fk_json::{Text, Texts};
 use fk_time::GREATEST;
 
 /// A text has fewer bytes than this, and a list fewer items.
-const TEXT_LIMIT: usize = 4_294_967_296;
+pub const TEXT_LIMIT: usize = 4_294_967_296;
 
 /// Whether a move has a spelling.
 pub(crate) fn has_spelling(step: &Move) -> bool

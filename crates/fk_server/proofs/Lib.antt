@@ -11,3 +11,4 @@ pub mod Keys
 pub mod ReadValues
 pub mod RefusalsPut
 pub mod Batches
+pub mod Answerable

@@ -7,7 +7,7 @@ ghost use Rattle.fk_model.specs.Payloads.{IsAcknowledged, acknowledged, refused,
 ghost use Rattle.fk_server.specs.Turning.{IsInForm};
 
 use crate::refusal::refuse;
-use fk_json::Text;
+use crate::short_text::short_text;
 use fk_model::{Ask, Item};
 use serde_json::Value;
 use std::alloc::{AllocError, Global};
@@ -45,7 +45,7 @@ fn acknowledge_in(alloc: Global, value: &Value) -> Result<Item, AllocError>
     }
     match value.get("jid").and_then(Value::as_str) {
         Some(jid) => Ok(Item::Asks(Ask::Ack {
-            jid: Text::copy(alloc, jid.as_bytes())?,
+            jid: short_text(alloc, jid.as_bytes())?,
         })),
         None => Ok(refuse(alloc, b"ERR No jid")),
     }

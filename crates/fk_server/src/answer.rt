@@ -1,9 +1,10 @@
-ghost use Rattle.std.specs.Prelude.{◌≡◌, [], ◌∷◌, IfErr, IfSome, OnErr, OnOk, Some, option_to_list};
+ghost use Rattle.std.specs.Prelude.{◌≡◌, ◌≤◌, [], ◌∷◌, length, IfErr, IfSome, OnErr, OnOk, Some, option_to_list};
 ghost use Rattle.fk_frame.specs.declared.line_reader.Line.TheVariants.{Whole};
+ghost use Rattle.fk_frame.specs.Lines.{longest_line};
 ghost use Rattle.fk_frame.specs.Replies.{IsWellFormed, reply_bytes};
 ghost use Rattle.fk_model.specs.Advance.{IsIdle};
 ghost use Rattle.fk_model.specs.Script.{phase_after, too_long};
-ghost use Rattle.fk_server.specs.Turning.{IsInForm};
+ghost use Rattle.fk_server.specs.Turning.{IsAnswerable};
 ghost use Rattle.fk_server.specs.Answering.{at_hand, results, Answers, BreaksOff, Gives, GivesLine, StopsAnswering, StopsAtItem, StopsAtLine, StopsWriting, Wrote};
 
 use crate::memory_store::MemoryStore;
@@ -53,7 +54,7 @@ fn answer<K: Sink, C: Clock, J: Dice>(
     output: &mut K,
     store: &mut MemoryStore<C, J>,
 ) -> Result<(), Ended>
-    requires { IsInForm item }
+    requires { IsAnswerable item }
     ensures ok { OnOk result (Gives
         (results (K.written output.old) store.old.server)
         (results (K.written output.new) store.new.server) (item ∷ [])) }
@@ -72,7 +73,7 @@ fn answer_any<K: Sink, C: Clock, J: Dice>(
     output: &mut K,
     store: &mut MemoryStore<C, J>,
 ) -> Result<(), Ended>
-    requires { IfSome item IsInForm }
+    requires { IfSome item IsAnswerable }
     ensures ok { OnOk result (Gives
         (results (K.written output.old) store.old.server)
         (results (K.written output.new) store.new.server) (option_to_list item)) }
@@ -94,6 +95,7 @@ fn serve_line<K: Sink, C: Clock, J: Dice>(
     output: &mut K,
     store: &mut MemoryStore<C, J>,
 ) -> Result<(), Ended>
+    requires { length line.now ≤ longest_line }
     ensures phase { OnOk result (phase.new ≡ phase_after phase.old (Whole line.now)) }
     ensures ok { OnOk result (GivesLine phase.old (Whole line.now)
         (results (K.written output.old) store.old.server)

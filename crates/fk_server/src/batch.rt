@@ -14,8 +14,9 @@ ghost use Rattle.fk_server.specs.Turning.{IsInForm};
 
 use crate::key::key_of;
 use crate::refusal::{fault_text, job_or_fault, refuse};
+use crate::short_text::short_text;
 use fk_job::{JobFault, Jobs};
-use fk_json::{JsonFault, Span, Text, scan_array};
+use fk_json::{JsonFault, Span, scan_array};
 use fk_model::{Ask, Item};
 use serde_json::{Map, Value};
 use std::alloc::{AllocError, Global};
@@ -50,7 +51,7 @@ fn batch_item(alloc: Global, batch: ReadBatch) -> Result<Item, AllocError>
     let text = Value::Object(batch.refusals).to_string(alloc)?;
     Ok(Item::Asks(Ask::PushBatch {
         jobs: fk_model::Batch::new(batch.jobs),
-        told: Text::copy(alloc, text.as_bytes())?,
+        told: short_text(alloc, text.as_bytes())?,
     }))
 }
 

@@ -12,6 +12,7 @@ mod piped;
 mod refusal;
 mod reply;
 mod session;
+mod short_text;
 mod talk;
 mod turn;
 

@@ -2,7 +2,7 @@
 ghost use Rattle.std.specs.Prelude.{◌≡◌, IfOk, OnErr};
 ghost use Rattle.fk_frame.specs.Replies.{IsWellFormed};
 ghost use Rattle.fk_model.specs.Answers.{reply_of};
-ghost use Rattle.fk_server.specs.Turning.{IsInForm, Replies};
+ghost use Rattle.fk_server.specs.Turning.{IsAnswerable, Replies};
 
 use crate::memory_store::MemoryStore;
 use fk_frame::Reply;
@@ -11,14 +11,13 @@ use fk_json::Text;
 use fk_model::{Answer, Item};
 use std::alloc::{AllocError, Global};
 
-/// The reply to an item: its own, or the answer of the turn that is made of it. An ask that isn't
-/// in range is told as want of memory: no line is long enough to bring one.
+/// The reply to an item: its own, or the answer of the turn that is made of it.
 pub(crate) fn reply_to<C: Clock, J: Dice>(
     alloc: Global,
     item: Item,
     store: &mut MemoryStore<C, J>,
 ) -> Result<Reply, AllocError>
-    requires { IsInForm item }
+    requires { IsAnswerable item }
     ensures ok { IfOk result (Replies store.old.server store.new.server item) }
     ensures form { IfOk result IsWellFormed }
     ensures err { OnErr result (store.new.server ≡ store.old.server) }
@@ -26,9 +25,6 @@ pub(crate) fn reply_to<C: Clock, J: Dice>(
     match item {
         Item::Own(reply) => Ok(reply),
         Item::Asks(ask) => {
-            if !ask.is_in_range() {
-                return Err(AllocError);
-            }
             let answer = store.turn(alloc, &ask);
             Ok(reply_of(alloc, answer))
         }

@@ -1,9 +1,11 @@
-ghost use Rattle.std.specs.Prelude.{◌≡◌, option_to_list, IfOk, IfSome};
+ghost use Rattle.std.specs.Prelude.{◌≡◌, ◌≤◌, length, option_to_list, IfOk, IfSome};
 ghost use Rattle.fk_frame.specs.declared.line_reader.Line.TheVariants.{Whole};
+ghost use Rattle.fk_frame.specs.Lines.{longest_line};
+ghost use Rattle.fk_job.specs.Spellings.{AreBytes};
 ghost use Rattle.fk_model.specs.Commands.{arguments};
 ghost use Rattle.fk_model.specs.Payloads.{IsFetched, IsPushed};
 ghost use Rattle.fk_model.specs.Script.{AreGiven, AreItemsOf, handshake_items, phase_after, too_long};
-ghost use Rattle.fk_server.specs.Turning.{IsInForm};
+ghost use Rattle.fk_server.specs.Turning.{IsAnswerable, IsInForm};
 ghost use Rattle.fk_server.specs.Verbs.{command};
 
 use crate::ack::acknowledge;
@@ -15,9 +17,28 @@ use fk_json::Text;
 use fk_model::{Ask, Item, Phase};
 use std::alloc::{AllocError, Global};
 
-/// What a whole line of a talk gives, if it gives anything.
-#[tactic(auto, unfolding(fk_model::specs::Script::AreItemsOf))]
+/// What a whole line of a talk gives, if it gives anything. An ask is in range, since no line is long
+/// enough for one that isn't.
+#[tactic(auto, using(crate::proofs::Answerable::answerable))]
 pub fn read_item(alloc: Global, phase: Phase, line: &[u8]) -> Result<Option<Item>, AllocError>
+    requires { length line.now ≤ longest_line }
+    ensures items { IfOk result (λ item. AreItemsOf phase (Whole line.now) (option_to_list item)) }
+    ensures range { IfOk result (λ item. IfSome item IsAnswerable) }
+{
+    are_bytes(line);
+    read_given(alloc, phase, line)
+}
+
+/// The bytes of a line are below 256.
+fn are_bytes(line: &[u8])
+    ensures { AreBytes line.now }
+{
+    let _ = line.len();
+}
+
+/// What a whole line of a talk gives, as far as it is read.
+#[tactic(auto, unfolding(fk_model::specs::Script::AreItemsOf))]
+fn read_given(alloc: Global, phase: Phase, line: &[u8]) -> Result<Option<Item>, AllocError>
     ensures items { IfOk result (λ item. AreItemsOf phase (Whole line.now) (option_to_list item)) }
     ensures form { IfOk result (λ item. IfSome item IsInForm) }
 {
