@@ -1,13 +1,16 @@
 -- Bytes that are read at once: their steps, one after another.
-use Rattle.std.proofs.Common.{◌≡◌, ℕ, zero, suc, ◌+◌, ◌-◌, ◌≤◌, ◌<◌, Bool, true, false, not, ◌&&◌, ◌==◌, nat_lt, cond, if◌then◌else◌, List, [], ◌∷◌, ◌++◌, length, take, drop, slice_index_or, Option, None, Some, refl, sym, ap, subst, ◌∙◌, arith, get_or-drop, length-drop}
+use Rattle.std.proofs.Common.{◌≡◌, ◌⊎◌, inl, inr, ℕ, zero, suc, ◌+◌, ◌-◌, ◌≤◌, ◌<◌, Bool, true, false, not, ◌&&◌, ◌==◌, nat_lt, cond, if◌then◌else◌, List, [], ◌∷◌, ◌++◌, length, take, drop, slice_index_or, Option, None, Some, refl, sym, ap, subst, ◌∙◌, arith, get_or-drop, length-drop}
 use Rattle.std.proofs.Math.Seq.{drop-cons, take-add}
 use Rattle.std.proofs.lemmas.Bool.{false≢true}
 use Rattle.std.proofs.lemmas.List.{drop-drop}
 use Rattle.std.proofs.lemmas.List.Sums.{prefix_len-le-length, prefix_len_stops}
+use Rattle.std.specs.Char.{is_ascii_digit}
 use Rattle.std.specs.List.{prefix_len}
 use Rattle.std.specs.Option.{option_and_then, option_map}
 use Rattle.fk_json.specs.Runs.{Passes, RunsTo, is_plain, through}
-use Rattle.fk_json.specs.Tokens.{character_first, string_step, when}
+use Rattle.fk_json.specs.Tokens.{behind_whole, character_first, number_step, raised_by, string_step, when}
+use Rattle.fk_json.specs.declared.number_mode.NumberMode.{NumberMode}
+use Rattle.fk_json.specs.declared.number_mode.NumberMode.TheVariants.{Whole, Fraction, Exponent}
 use Rattle.fk_json.specs.declared.string_mode.StringMode.{StringMode}
 use Rattle.fk_json.specs.declared.string_mode.StringMode.TheVariants.{Inside, Escape, Closed}
 
@@ -129,6 +132,21 @@ passes_plain text at to mode is l e =
     subst (λ m. Passes string_step text at m to m) (sym is)
     (passes_kept string_step is_plain text at to Inside
     (λ byte. plain_inside (byte == 34) (byte == 92) (nat_lt byte 32) (nat_lt byte 0x80) (character_first byte)) l e)
+
+-- digits lead on among digits of which there may be more
+digits_stay : (mode : NumberMode) → (mode ≡ Whole) ⊎ ((mode ≡ Fraction) ⊎ (mode ≡ Exponent)) → (byte : ℕ)
+    → is_ascii_digit byte ≡ true → number_step mode byte ≡ Some mode
+digits_stay mode (inl is) byte e =
+    subst (λ m. number_step m byte ≡ Some m) (sym is) (ap (λ t. if t then Some Whole else behind_whole byte) e)
+digits_stay mode (inr (inl is)) byte e =
+    subst (λ m. number_step m byte ≡ Some m) (sym is) (ap (λ t. if t then Some Fraction else raised_by byte) e)
+digits_stay mode (inr (inr is)) byte e =
+    subst (λ m. number_step m byte ≡ Some m) (sym is) (ap (λ t. if t then Some Exponent else None) e)
+
+pub passes_digits : (text : List ℕ) (at to : ℕ) (mode : NumberMode)
+    → (mode ≡ Whole) ⊎ ((mode ≡ Fraction) ⊎ (mode ≡ Exponent)) → at ≤ length text
+    → to ≡ at + prefix_len is_ascii_digit (drop at text) → Passes number_step text at mode to mode
+passes_digits text at to mode is l e = passes_kept number_step is_ascii_digit text at to mode (digits_stay mode is) l e
 
 -- ---- the steps of a part are steps of the whole
 

@@ -1,5 +1,6 @@
 // Where runs of bytes of one kind end.
 ghost use Rattle.std.specs.Prelude.{◌≡◌, ◌+◌, ◌≤◌, length, drop};
+ghost use Rattle.std.specs.Char.{is_ascii_digit};
 ghost use Rattle.std.specs.List.{prefix_len};
 ghost use Rattle.fk_json.specs.Json.{is_space};
 ghost use Rattle.fk_json.specs.String.{is_itself};
@@ -42,6 +43,18 @@ fn is_plain(byte: u8) -> bool
     ensures { result ≡ is_plain byte }
 {
     is_itself(byte) && byte < 0x80
+}
+
+/// Where digits end.
+pub(crate) fn digits_end(text: &[u8], from: usize) -> usize
+    requires { from ≤ length text.now }
+    ensures { result ≡ from + prefix_len is_ascii_digit (drop from text.now) }
+{
+    let mut at = from;
+    'bytes: while at < text.len() && text[at].is_ascii_digit() {
+        at += 1;
+    }
+    at
 }
 
 /// Where white space ends.

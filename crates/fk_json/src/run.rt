@@ -3,7 +3,7 @@ ghost use Rattle.std.specs.Prelude.{◌≤◌, length};
 ghost use Rattle.fk_json.specs.Runs.{Passes, RunsTo, stays, stays_between};
 ghost use Rattle.fk_json.specs.Tokens.{letters_step, number_step, string_step, token_step};
 
-use crate::ends::{plain_end, space_end};
+use crate::ends::{digits_end, plain_end, space_end};
 use crate::mode::Mode;
 use crate::number_mode::{NumberMode, number_step};
 use crate::standing::Region;
@@ -132,18 +132,29 @@ fn number_run(text: &[u8], from: usize, mode: NumberMode) -> Run<NumberMode>
     requires { from ≤ length text.now }
     ensures { RunsTo number_step text.now from mode result.to result.mode }
 {
-    let mut to = from;
+    let mut to = behind_digits(text, from, mode);
     let mut mode = mode;
-    'bytes: while to < text.len() {
+    'parts: while to < text.len() {
         match number_step(mode, text[to]) {
             Some(next) => {
                 mode = next;
-                to += 1;
+                to = behind_digits(text, to + 1, next);
             }
             None => break,
         }
     }
     Run { to, mode }
+}
+
+// Behind the digits that stand here, where the scan is among digits of which there may be more.
+fn behind_digits(text: &[u8], from: usize, mode: NumberMode) -> usize
+    requires { from ≤ length text.now }
+    ensures { Passes number_step text.now from mode result mode }
+{
+    match mode {
+        NumberMode::Whole | NumberMode::Fraction | NumberMode::Exponent => digits_end(text, from),
+        _ => from,
+    }
 }
 
 // Reads on to the end of `null`, `true` or `false`.
