@@ -1,0 +1,10 @@
+pub mod Halves
+pub mod Kept
+pub mod Rising
+pub mod Around
+pub mod Tops
+pub mod Turns
+pub mod Puts
+pub mod Takes
+pub mod Due
+pub mod Counts

@@ -1,0 +1,32 @@
+-- The order of pairs of a moment and a ticket, and lists of pairs in that order.
+use Rattle.std.specs.Prelude.{ℕ, ◌==◌, ◌&&◌, ◌||◌, ◌≢◌, nat_lt, not, Bool, IsTrue, List, [], ◌∷◌, ◌++◌, filter}
+use Rattle.std.specs.List.{AllByRecursion}
+
+-- whether a pair comes before another: by the moments, and for equal moments by the tickets
+abbrev pub comes_before : ℕ × ℕ → ℕ × ℕ → Bool
+comes_before one other = nat_lt one.0 other.0 || ((one.0 == other.0) && nat_lt one.1 other.1)
+
+-- each pair comes before all that stand behind it, so that each stands once
+abbrev pub IsRising : List (ℕ × ℕ) → Type 0
+IsRising [] = Unit {0}
+IsRising (pair ∷ pairs) =
+    AllByRecursion (λ other. IsTrue (comes_before pair other)) pairs × IsRising pairs
+
+-- no pair among them is this one
+abbrev pub AreOthers : ℕ × ℕ → List (ℕ × ℕ) → Type 0
+AreOthers pair pairs = AllByRecursion (λ other. other ≢ pair) pairs
+
+-- pairs in order, with one more in its place
+abbrev pub with_pair : ℕ × ℕ → List (ℕ × ℕ) → List (ℕ × ℕ)
+with_pair pair pairs =
+    filter (λ other. comes_before other pair) pairs
+    ++ pair ∷ filter (λ other. not (comes_before other pair)) pairs
+
+-- the pairs but this one
+abbrev pub without_pair : ℕ × ℕ → List (ℕ × ℕ) → List (ℕ × ℕ)
+without_pair pair pairs =
+    filter (λ other. not ((other.0 == pair.0) && (other.1 == pair.1))) pairs
+
+-- the pairs whose moment is at most this one
+abbrev pub up_to : ℕ → List (ℕ × ℕ) → List (ℕ × ℕ)
+up_to moment pairs = filter (λ pair. not (nat_lt moment pair.0)) pairs

@@ -1,0 +1,15 @@
+//! A balanced search tree of pairs of a moment and a ticket, with room for more.
+#![tactic(auto)]
+
+mod key;
+mod putting;
+mod reading;
+mod side;
+mod spare;
+mod steps;
+mod taking;
+mod tree;
+mod turning;
+
+pub use steps::Steps;
+pub use tree::Tree;

@@ -1,0 +1,56 @@
+ghost use Rattle.std.specs.Prelude.{◌≡◌, ◌+◌, ◌-◌, ◌^◌, ◌<◌, min};
+
+use std::marker::Model;
+use std::sync::ledger::{Blank, Book, Ledger, Share};
+
+/// A count of comparisons. It only rises, by one for each comparison: the ledger's tokens see to
+/// that, and take no memory.
+#[derive(Drop)]
+pub struct Steps<L: Ledger> {
+    count: u64,
+    book: Book<L>,
+    share: Share<L>,
+}
+
+impl<L: Ledger> Model for Steps<L> {
+    ghost use Rattle.std.specs.Prelude.{ℕ, ◌≡◌, ◌-◌, ◌^◌, ◌<◌, min};
+
+    ghost Value = { ℕ };
+
+    ghost view = { λ steps. steps.share.amount };
+
+    ghost invariant = { λ steps. (0 < steps.share.parts)
+        × (steps.count ≡ min steps.share.amount (2 ^ 64 - 1)) };
+}
+
+impl<L: Ledger> Steps<L> {
+    /// No comparison so far.
+    pub fn new(blank: Blank) -> Steps<L>
+        requires name { blank.name ≡ L.name }
+        requires parts { blank.parts ≡ L.parts }
+        requires some { 0 < blank.parts }
+        ensures { result ≡ 0 }
+    {
+        let (book, share) = blank.open::<L>();
+        Steps {
+            count: 0,
+            book,
+            share,
+        }
+    }
+
+    /// The number of comparisons, which stands still at the end of its type.
+    pub fn count(&self) -> u64
+        ensures { result ≡ min self.now (2 ^ 64 - 1) }
+    {
+        self.count
+    }
+
+    /// Counts a comparison.
+    pub(crate) fn add(&mut self)
+        ensures { self.new ≡ self.old + 1 }
+    {
+        self.book.add(&mut self.share, 1);
+        self.count = self.count.saturating_add(1);
+    }
+}
