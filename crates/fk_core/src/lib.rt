@@ -7,8 +7,6 @@ mod index;
 mod looking;
 mod reserving;
 mod tables;
-#[cfg(test)]
-mod tests;
 
 pub use fitting::GREATEST_NEXT;
 pub use tables::Tables;

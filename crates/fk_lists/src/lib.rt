@@ -8,8 +8,6 @@ mod marking;
 mod pair_list;
 mod room_by_name;
 mod size;
-#[cfg(test)]
-mod tests;
 
 pub use lists::Lists;
 pub use room_by_name::RoomByName;

@@ -97,24 +97,3 @@ impl Moves {
         self.moves.clear();
     }
 }
-
-#[cfg(test)]
-mod tests {
-    use super::*;
-    use std::test::Fail;
-
-    #[test]
-    fn a_move_is_put_in_the_place_of_another(rt: HostRuntime) -> Result<(), Fail> {
-        let mut moves = Moves::new(rt.alloc());
-        moves.reserve(2)?;
-        moves.push(Move::Drop { ticket: 1 })?;
-        moves.push(Move::DropAll)?;
-        let held = moves.replace(0, Move::Drop { ticket: 2 });
-        assert!(rt; matches!(held, Some(Move::Drop { ticket: 1 })));
-        assert!(rt; matches!(moves.get(0), Some(Move::Drop { ticket: 2 })));
-        assert!(rt; moves.replace(2, Move::DropAll).is_none());
-        moves.clear();
-        assert_eq!(rt; moves.len(), 0);
-        Ok(())
-    }
-}

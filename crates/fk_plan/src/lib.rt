@@ -6,7 +6,5 @@ mod fetching;
 mod planning;
 mod pushing;
 mod replies;
-#[cfg(test)]
-mod tests;
 
 pub use planning::plan;

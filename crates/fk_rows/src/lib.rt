@@ -3,7 +3,5 @@
 
 mod rows;
 mod slots;
-#[cfg(test)]
-mod tests;
 
 pub use rows::Rows;
