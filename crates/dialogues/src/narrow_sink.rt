@@ -11,9 +11,7 @@ pub struct NarrowSink {
 }
 
 impl Sink for NarrowSink {
-    ghost held = { λ sink. Some sink.to.held };
-
-    ghost write_faults = { λ sink. sink.to.faults };
+    ghost written = { λ sink. record { held = Some sink.to.held; faults = sink.to.faults } };
 
     fn put(&mut self, piece: &[u8]) -> Result<usize, Failed> {
         let most = piece.len().min(self.width.max(1));

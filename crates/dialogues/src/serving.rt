@@ -7,9 +7,10 @@ use crate::run::Run;
 use crate::steps::is_ready;
 use fk_core::Tables;
 use fk_io::{ByteSink, ByteSource, Failed, ListClock, ListDice, Source};
-use fk_server::pipe;
+use fk_server::{MemoryStore, pipe};
 use fk_time::GREATEST;
 use std::alloc::{AllocError, Global};
+use std::mem::replace;
 
 /// What a connection left.
 #[derive(Drop)]
@@ -25,22 +26,16 @@ pub fn serve(alloc: Global, run: &Run, tables: &mut Tables) -> Result<Outcome, S
     if !is_ready(tables) {
         return Err(ScriptFault::NextTooLow);
     }
-    let mut clock = clock_of(alloc, &run.moments)?;
-    let mut dice = dice_of(alloc, &run.dice)?;
+    let clock = clock_of(alloc, &run.moments)?;
+    let dice = dice_of(alloc, &run.dice)?;
     let mut input = ByteSource::new(alloc, &run.input, &run.cuts, &run.failing_reads)?;
     let mut output = NarrowSink {
         to: ByteSink::new(alloc, &run.failing_writes)?,
         width: run.width,
     };
-    let status = pipe(
-        alloc,
-        &run.words,
-        &mut input,
-        &mut output,
-        tables,
-        &mut clock,
-        &mut dice,
-    );
+    let mut store = MemoryStore::over(replace(tables, Tables::empty(alloc)), clock, dice);
+    let status = pipe(alloc, &run.words, &mut input, &mut output, &mut store);
+    *tables = store.into_tables();
     Ok(Outcome {
         status,
         written: Vec::from_slice(alloc, output.to.bytes())?,
