@@ -1,6 +1,5 @@
 -- Bytes that stand for themselves in a string, read and written at once.
 use Rattle.std.proofs.Common.{◌≡◌, ℕ, zero, suc, ◌+◌, Bool, true, false, not, ◌&&◌, ◌==◌, nat_lt, cond, if◌then◌else◌, List, [], ◌∷◌, ◌++◌, take, drop, flat_map, codes, Option, None, Some, refl, sym, ap, subst, ◌∙◌, arith}
-
 use Rattle.std.specs.List.{prefix_len, take_while}
 use Rattle.std.proofs.lemmas.Bool.{le-ltb, ne_eqb}
 use Rattle.std.proofs.lemmas.Bool.Decides.{nat_tests}
@@ -69,9 +68,16 @@ reading_behind (Some high) value bytes new rest inside same reading =
 spelled_itself : (b : ℕ) → is_itself b ≡ true → spelled_byte b ≡ b ∷ []
 spelled_itself b own =
     let (l, quoted, escaped) = itself_part b own in
-    rw (ne_eqb b 34 quoted, ne_eqb b 92 escaped, ne_eqb b 8 (λ e. omega (arith, l, e)),
-    ne_eqb b 9 (λ e. omega (arith, l, e)), ne_eqb b 10 (λ e. omega (arith, l, e)),
-    ne_eqb b 12 (λ e. omega (arith, l, e)), ne_eqb b 13 (λ e. omega (arith, l, e)), le-ltb b 32 l) refl
+    rw (
+      ne_eqb b 34 quoted,
+      ne_eqb b 92 escaped,
+      ne_eqb b 8 (λ e. omega (arith, l, e)),
+      ne_eqb b 9 (λ e. omega (arith, l, e)),
+      ne_eqb b 10 (λ e. omega (arith, l, e)),
+      ne_eqb b 12 (λ e. omega (arith, l, e)),
+      ne_eqb b 13 (λ e. omega (arith, l, e)),
+      le-ltb b 32 l,
+    ) refl
 
 spelled_first : (b n : ℕ) (rest : List ℕ) (own : Bool) → (own ≡ true → spelled_byte b ≡ b ∷ [])
     → flat_map spelled_byte rest ≡ take n rest ++ flat_map spelled_byte (drop n rest)

@@ -120,7 +120,7 @@ reads_through outer text cursor (suc count) at region next inner places l so_far
     let inside : at < length text = omega (arith, l) in
     let byte = slice_index_or text at 0 in
     let parts : option_and_then (λ r. through stays r (take count (drop (suc at) text))) (stays region byte) ≡ Some next
-        = ap (λ x. through stays region (take (suc count) x)) (sym (drop-cons text at 0 inside)) ∙ e in
+    = ap (λ x. through stays region (take (suc count) x)) (sym (drop-cons text at 0 inside)) ∙ e in
     option_and_then_some (λ r. through stays r (take count (drop (suc at) text))) (stays region byte) next parts
     (λ middle is rest.
     let place : (at + 1) + count ≡ at + suc count = omega arith in

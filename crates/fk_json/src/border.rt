@@ -6,7 +6,9 @@ ghost use Rattle.fk_json.specs.Standing.{between_by, moved};
 ghost use Rattle.fk_json.specs.Step.{gives};
 
 use crate::mode::{Bracket, Mode, closing, is_space};
-use crate::standing::{Found, Led, Region, Standing, begun_at, closed, ended_at, named_at, names_at, opened};
+use crate::standing::{
+    Found, Led, Region, Standing, begun_at, closed, ended_at, named_at, names_at, opened,
+};
 use crate::string_mode::{StringMode, string_ends};
 use crate::token::{token_ends, token_first};
 

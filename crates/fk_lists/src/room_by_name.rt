@@ -35,8 +35,7 @@ pub trait RoomByName {
         ensures kept { (other : List ℕ)
             → spare_at (room self.old).spares other ≤ spare_at (room self.new).spares other }
         ensures same { (room self.new).items ≡ (room self.old).items }
-        ensures ready {
-            mark_at (room self.old).marks name.now < spare_at (room self.old).spares name.now
+        ensures ready { mark_at (room self.old).marks name.now < spare_at (room self.old).spares name.now
             → IsOk result };
 
     /// Takes all marks of a name away.

@@ -48,7 +48,7 @@ returns-in-On-Some-clause-ok c = λ found read.
     let there = (ran before).reads found read in
     let is = ap (λ o. gives (led.On o) next) (sym s.field-0-is) ∙ ap (λ l. gives l next) (sym s.is) ∙ c.read.ensures in (
       found_named c.args.outer c.args.text.now c.pass_run-at.result found c.pass_run-at.new.standing next s.found inside
-      there is,
+          there is,
       λ items adds. found_read c.args.outer c.args.text.now c.pass_run-at.result found items c.pass_run-at.new.standing next
           s.found c.behind.result inside there is adds c.behind.ensures.at c.behind.ensures.standing,
     )
