@@ -1,0 +1,10 @@
+use Rattle.std.proofs.Common.{◌+◌}
+use Rattle.bench_timed.specs.Tickets.{AreBelow}
+use Rattle.bench_timed.proofs.tree.run.Given as goal
+
+-- each ticket is below the next one
+abbrev pub invariant-fill : goal.invariant-fill
+invariant-fill l = AreBelow l.ticket l.timed.items
+
+abbrev pub invariant-turn : goal.invariant-turn
+invariant-turn l = AreBelow (l.size + l.oldest) l.timed.items
