@@ -4,7 +4,7 @@ use Rattle.std.specs.Prelude.{option_to_list}
 use Rattle.std.specs.Result.{OnOk, IfErr, MatchResult}
 use Rattle.fk_io.specs.declared.fault.Ended.{Ended}
 use Rattle.fk_io.specs.declared.fault.Ended.TheVariants.{Closed, ReadFault, WriteFault, Spent, NoMemory}
-use Rattle.fk_io.specs.Content.{Supply, Written, Took, Gained}
+use Rattle.fk_io.specs.Content.{Supply, Written, Took}
 use Rattle.fk_io.proofs.Content.{took_nothing, took_both}
 use Rattle.fk_frame.specs.Lines.{lines_of}
 use Rattle.fk_model.specs.declared.entry.Entry.{Entry}
@@ -19,7 +19,7 @@ use Rattle.fk_model.proofs.Outs.{out_goes_on}
 use Rattle.fk_model.proofs.Total.{Laws, script_total}
 use Rattle.fk_server.specs.declared.session.Session.{Session}
 use Rattle.fk_server.specs.Turning.{Server, Turned, answers_in, asks_in}
-use Rattle.fk_server.specs.Session.{Setting, setting, Begins, IsAnsweredSoFar, IsBehindByPiece, IsPartOf, IsPrompt, IsSession, HasEnded, HasFaults, ReadsWell, behind_greeting, most_read}
+use Rattle.fk_server.specs.Session.{Setting, setting, Begins, IsAnsweredSoFar, IsBehindByPiece, IsPartOf, IsSession, HasEnded, HasFaults, ReadsWell, behind_greeting, most_read}
 use Rattle.fk_server.specs.Answering.{BreaksOff, Stops, Results, results, at_hand, Answers, StopsAnswering}
 use Rattle.fk_server.specs.BetweenReads.{IsBetweenReads}
 use Rattle.fk_server.specs.declared.session.TheConstants.{TAKEN_MAX}

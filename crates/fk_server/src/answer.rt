@@ -46,28 +46,9 @@ fn write_answer<K: Sink>(alloc: Global, reply: &Reply, output: &mut K) -> Result
     }
 }
 
-/// Does what a line asks for: a turn is made where it asks for one, and then the reply is written.
-/// So no reply is written before its turn.
+/// Does what a line asks for, if it asks for anything: a turn is made where it asks for one, and
+/// then the reply is written. So no reply is written before its turn.
 fn answer<K: Sink, C: Clock, J: Dice>(
-    alloc: Global,
-    item: Item,
-    output: &mut K,
-    store: &mut MemoryStore<C, J>,
-) -> Result<(), Ended>
-    requires { IsAnswerable item }
-    ensures ok { OnOk result (Gives
-        (results (K.written output.old) store.old.server)
-        (results (K.written output.new) store.new.server) (item ∷ [])) }
-    ensures err { IfErr result (λ ended. StopsAtItem ended
-        (results (K.written output.old) store.old.server)
-        (results (K.written output.new) store.new.server) (Some item)) }
-{
-    let reply = reply_to(alloc, item, store)?;
-    write_answer(alloc, &reply, output)
-}
-
-/// Does what a line asks for, if it asks for anything.
-fn answer_any<K: Sink, C: Clock, J: Dice>(
     alloc: Global,
     item: Option<Item>,
     output: &mut K,
@@ -82,7 +63,10 @@ fn answer_any<K: Sink, C: Clock, J: Dice>(
         (results (K.written output.new) store.new.server) item) }
 {
     match item {
-        Some(item) => answer(alloc, item, output, store),
+        Some(item) => {
+            let reply = reply_to(alloc, item, store)?;
+            write_answer(alloc, &reply, output)
+        }
         None => Ok(()),
     }
 }
@@ -104,8 +88,7 @@ fn serve_line<K: Sink, C: Clock, J: Dice>(
         (results (K.written output.old) store.old.server)
         (results (K.written output.new) store.new.server)) }
 {
-    let item = read_item(alloc, *phase, line)?;
-    answer_any(alloc, item, output, store)?;
+    answer(alloc, read_item(alloc, *phase, line)?, output, store)?;
     *phase = next_phase(*phase, line);
     Ok(())
 }
@@ -125,7 +108,7 @@ fn end_at_long_line<K: Sink, C: Clock, J: Dice>(
         (results (K.written output.old) store.old.server)
         (results (K.written output.new) store.new.server) (Some too_long)) }
 {
-    answer(alloc, refuse_long_line(alloc), output, store)?;
+    answer(alloc, Some(refuse_long_line(alloc)), output, store)?;
     *phase = Phase::Over;
     Ok(())
 }

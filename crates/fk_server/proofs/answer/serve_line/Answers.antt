@@ -3,7 +3,7 @@ use Rattle.std.proofs.lemmas.Result.{err_from_is_err_and}
 use Rattle.fk_server.proofs.Giving.{starved_first}
 use Rattle.fk_server.proofs.answer.serve_line.Goals as goal
 
-pub returns-in_err-item-clause-err : goal.returns-in_err-item-clause-err
-returns-in_err-item-clause-err g c =
+pub returns-in_err-read_item-clause-err : goal.returns-in_err-read_item-clause-err
+returns-in_err-read_item-clause-err g c =
     let p = err_from_is_err_and c.from_residual.result c.from_residual.ensures.1 in
     rw (p.1, p.2) (inl (starved_first _ _ refl refl))

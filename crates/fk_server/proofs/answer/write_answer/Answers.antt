@@ -1,6 +1,6 @@
 use Rattle.std.proofs.Common.{[]}
 use Rattle.std.proofs.lemmas.Result.{err_from_is_err_and}
-use Rattle.fk_server.proofs.Writing.{starved_at_once, stops_at_write}
+use Rattle.fk_server.proofs.Writing.{starved_at_once}
 use Rattle.fk_server.proofs.answer.write_answer.Goals as goal
 
 pub returns-in_err-bytes-clause-err : goal.returns-in_err-bytes-clause-err
