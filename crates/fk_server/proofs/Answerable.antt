@@ -1,6 +1,7 @@
 -- What a line gives can be answered.
-use Rattle.std.proofs.Common.{ℕ, ◌≤◌, List, [], ◌∷◌, length, Option, None, Some, Result, Ok, Err}
+use Rattle.std.proofs.Common.{◌≡◌, ℕ, ◌≤◌, List, [], ◌∷◌, length, Option, None, Some, Result, Ok, Err, subst, sym}
 use Rattle.std.specs.Prelude.{IfOk, IfSome, option_to_list}
+use Rattle.fk_frame.specs.declared.reply.Reply.{Reply}
 use Rattle.fk_frame.specs.declared.line_reader.Line.TheVariants.{Whole}
 use Rattle.fk_frame.specs.Lines.{longest_line}
 use Rattle.fk_job.specs.Spellings.{AreBytes}
@@ -26,3 +27,7 @@ pub answerable : {E : Type 0} (phase : Phase) (line : List ℕ) (read : Result (
     → IfOk read (λ item. IfSome item IsInForm) → IfOk read (λ item. IfSome item IsAnswerable)
 answerable phase line (Ok item) are short given form = item_answerable phase line item are short given form
 answerable phase line (Err e) are short given form = form
+
+-- a reply of the script's own that is in form can be answered
+pub own_answerable : (item : Item) (reply : Reply) → item ≡ Own reply → IsInForm item → IsAnswerable item
+own_answerable item reply same form = subst IsAnswerable (sym same) (subst IsInForm same form)

@@ -114,6 +114,7 @@ fn end_at_long_line<K: Sink, C: Clock, J: Dice>(
 }
 
 /// Answers the lines of the bytes at hand, in order, up to END or to one that is too long.
+#[tactic(auto, using(fk_model::proofs::LineRange::first_line_short))]
 pub fn serve_lines<K: Sink, C: Clock, J: Dice>(
     alloc: Global,
     phase: &mut Phase,

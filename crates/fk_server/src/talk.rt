@@ -67,9 +67,10 @@ pub fn next_phase(phase: Phase, line: &[u8]) -> Phase
 }
 
 /// What a line that is too long gives, before and behind a HELLO.
+#[tactic(auto, using(crate::proofs::Answerable::own_answerable))]
 pub fn refuse_long_line(alloc: Global) -> Item
     ensures item { result ≡ too_long }
-    ensures form { IsInForm result }
+    ensures form { IsAnswerable result }
 {
     refuse(alloc, b"ERR Line too long")
 }
