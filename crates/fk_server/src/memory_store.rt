@@ -69,15 +69,6 @@ impl<C: Clock, J: Dice> MemoryStore<C, J> {
         }
     }
 
-    /// The tables, as the turns so far have left them.
-    pub fn tables(&self) -> &Tables
-        ensures same { result.now ≡ self.now.tables }
-        ensures state { self.now.server.state ≡ without_workers self.now.tables.kept }
-        ensures above { IsAboveAll self.now.tables.kept.next self.now.tables.kept.rows }
-    {
-        &self.tables
-    }
-
     /// Makes one turn, which takes one moment and one word, whatever it answers. Its answer may be
     /// want of memory, which leaves the state as it is.
     pub fn turn(&mut self, alloc: Global, ask: &Ask) -> Answer
@@ -94,6 +85,7 @@ impl<C: Clock + Drop, J: Dice + Drop> MemoryStore<C, J> {
     /// The tables alone, over which another store can be made.
     pub fn into_tables(self) -> Tables
         ensures same { result ≡ self.tables }
+        ensures state { self.server.state ≡ without_workers result.kept }
         ensures above { IsAboveAll result.kept.next result.kept.rows }
     {
         let MemoryStore {

@@ -19,7 +19,6 @@ use std::alloc::{AllocError, Global};
 
 /// What a whole line of a talk gives, if it gives anything. An ask is in range, since no line is long
 /// enough for one that isn't.
-#[tactic(auto, using(crate::proofs::Answerable::answerable))]
 pub fn read_item(alloc: Global, phase: Phase, line: &[u8]) -> Result<Option<Item>, AllocError>
     requires { length line.now ≤ longest_line }
     ensures items { IfOk result (λ item. AreItemsOf phase (Whole line.now) (option_to_list item)) }

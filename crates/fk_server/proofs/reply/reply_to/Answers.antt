@@ -4,6 +4,6 @@ use Rattle.fk_server.proofs.reply.reply_to.Goals as goal
 pub returns-in-Own-clause-ok : goal.returns-in-Own-clause-ok
 returns-in-Own-clause-ok g c = rw c.in-Own.is (replies_own _ _)
 
-pub returns-else-not-is_in_range-clause-form : goal.returns-else-not-is_in_range-clause-form
-returns-else-not-is_in_range-clause-form g c =
+pub returns-in-Asks-clause-form : goal.returns-in-Asks-clause-form
+returns-in-Asks-clause-form g c =
     rw c.reply_of.ensures (made_in_form _ _ _ _ c.turn-answer.ensures)
