@@ -3,7 +3,7 @@ use Rattle.std.proofs.Common.{◌≡◌, ℕ, ◌<◌, ◌∷◌, ◌++◌, leng
 use Rattle.std.specs.declared.alloc.Global.{Global}
 use Rattle.fk_tree.specs.declared.side.Node.{Node}
 use Rattle.fk_tree.specs.Shape.{Shape, AreSides, IsOver, pairs_over, height_over}
-use Rattle.fk_tree.specs.Side.{pair_of, pairs_of, IsBalanced}
+use Rattle.fk_tree.specs.Side.{pair_of, pairs_of, height_of, IsBalanced}
 use Rattle.fk_tree.proofs.Halves.{full_over}
 
 -- a side with these pairs and this height is full
@@ -15,14 +15,14 @@ over_is side left right pair pairs height sides =
     record { pairs = pairs; height = height; sides = sides; full = rw (pairs, height) full }
 
 -- what a side says of the node at its top
-pub top_is : (side : Shape) (height : ℕ) (top : Option (Box Node Global)) (node : Box Node Global)
-    → record { pairs = pairs_of top; height = height } ≡ side → IsBalanced height top → top ≡ Some node
+pub top_is : (side : Shape) (top : Option (Box Node Global)) (node : Box Node Global)
+    → record { pairs = pairs_of top; height = height_of top } ≡ side → IsBalanced top → top ≡ Some node
     → IsOver side node.value.left (pair_of node.value.key) node.value.right
-top_is side height top node view balanced is =
-    let there = subst (IsBalanced height) is balanced in
+top_is side top node view balanced is =
+    let there = subst IsBalanced is balanced in
     over_is side node.value.left node.value.right (pair_of node.value.key)
     (sym (ap (λ (shape : Shape). shape.pairs) view) ∙ ap pairs_of is)
-    (sym (ap (λ (shape : Shape). shape.height) view) ∙ there.1) there.0
+    (sym (ap (λ (shape : Shape). shape.height) view) ∙ ap height_of is ∙ there.1) there.0
 
 -- each side has fewer pairs
 pub shorter_left : (side left right : Shape) (pair : ℕ × ℕ) → IsOver side left pair right

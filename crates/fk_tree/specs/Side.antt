@@ -12,9 +12,14 @@ abbrev pub pairs_of : Option (Box Node Global) → List (ℕ × ℕ)
 pairs_of None = []
 pairs_of (Some node) = pairs_over node.value.left (pair_of node.value.key) node.value.right
 
--- the height is that of what stands there: a node whose heights differ by at most one
-abbrev pub IsBalanced : ℕ → Option (Box Node Global) → Type 0
-IsBalanced height None = height ≡ 0
-IsBalanced height (Some node) =
+-- no level where nothing stands, else what the node tells
+abbrev pub height_of : Option (Box Node Global) → ℕ
+height_of None = 0
+height_of (Some node) = node.value.height
+
+-- what stands there is a node whose heights differ by at most one, and it tells its own height
+abbrev pub IsBalanced : Option (Box Node Global) → Type 0
+IsBalanced None = Unit {0}
+IsBalanced (Some node) =
     AreSides 1 node.value.left (pair_of node.value.key) node.value.right
-    × (height ≡ height_over node.value.left node.value.right)
+    × (node.value.height ≡ height_over node.value.left node.value.right)

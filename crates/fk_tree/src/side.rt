@@ -6,18 +6,19 @@ use crate::key::Key;
 use std::marker::Model;
 use std::mem;
 
-/// A side of a node: a tree of its own with its height, the number of nodes on its longest way down.
+/// A side of a node: a tree of its own.
 #[cycle(tree)]
 #[derive(Drop)]
 pub(crate) struct Side {
-    pub(crate) height: u8,
     pub(crate) top: Option<Box<Node>>,
 }
 
-/// A pair, with what comes before it on its left side and what comes behind it on its right side.
+/// A pair, with what comes before it on its left side and what comes behind it on its right side. Its
+/// height is the number of nodes on the longest way down from it, itself among them.
 #[cycle(tree)]
 #[derive(Drop)]
 pub(crate) struct Node {
+    pub(crate) height: u8,
     pub(crate) left: Side,
     pub(crate) key: Key,
     pub(crate) right: Side,
@@ -29,11 +30,11 @@ impl Model for Side {
     ghost Value = { Shape };
 
     ghost use Rattle.std.specs.Prelude.{length};
-    ghost use Rattle.fk_tree.specs.Side.{pairs_of, IsBalanced};
+    ghost use Rattle.fk_tree.specs.Side.{height_of, pairs_of, IsBalanced};
 
-    ghost view = { λ side. record { pairs = pairs_of side.top; height = side.height } };
+    ghost view = { λ side. record { pairs = pairs_of side.top; height = height_of side.top } };
 
-    ghost invariant = { λ side. IsBalanced side.height side.top };
+    ghost invariant = { λ side. IsBalanced side.top };
 
     ghost size = { λ shape. length shape.pairs };
 
@@ -55,10 +56,7 @@ impl Side {
     pub(crate) fn empty() -> Side
         ensures { IsBare result }
     {
-        Side {
-            height: 0,
-            top: None,
-        }
+        Side { top: None }
     }
 
     /// The side that a node stands at the top of, with two sides in the place of its own.
@@ -69,18 +67,23 @@ impl Side {
     {
         let height = left.height().max(right.height()) + 1;
         let key = node.key;
-        *node = Node { left, key, right };
-        Side {
+        *node = Node {
             height,
-            top: Some(node),
-        }
+            left,
+            key,
+            right,
+        };
+        Side { top: Some(node) }
     }
 
     /// The number of nodes on its longest way down.
     pub(crate) fn height(&self) -> u8
         ensures { result ≡ self.now.height }
     {
-        self.height
+        match &self.top {
+            None => 0,
+            Some(node) => node.height,
+        }
     }
 
     /// What stands there, with the side left empty.
@@ -110,6 +113,7 @@ impl Node {
         ensures { pair_of result.key ≡ (moment, ticket) }
     {
         Node {
+            height: 1,
             left: Side::empty(),
             key: Key { moment, ticket },
             right: Side::empty(),

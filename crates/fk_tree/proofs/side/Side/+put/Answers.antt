@@ -1,10 +1,11 @@
-use Rattle.std.proofs.Common.{refl, ◌+◌, ◌<◌, ◌^◌, length, arith, rules}
+use Rattle.std.proofs.Common.{refl, ◌≡◌, ◌+◌, ◌<◌, ◌^◌, max, length, arith, rules}
 use Rattle.fk_tree.specs.Order.{AreOthers}
 use Rattle.fk_tree.specs.Side.{pair_of}
 use Rattle.fk_tree.proofs.Tops.{shorter_right}
 use Rattle.fk_tree.proofs.Puts.{put_left, put_right, put_left_pairs, put_right_pairs, others_right, not_node}
 use Rattle.fk_tree.proofs.side.Side.+put.Goals as goal
 use Rattle.fk_tree.proofs.side.Side.+put.Goals.{in-Less, in-Greater}
+use Rattle.fk_tree.proofs.Halves.{low_height}
 
 pub put-requires-in-Greater : goal.put-requires-in-Greater
 put-requires-in-Greater g t c κs within =
@@ -56,4 +57,15 @@ returns-clause-pairs g t c =
           rw (c.balanced.ensures.pairs, w.left-is, w.right-is, ← c.take.ensures.value)
           (put_right_pairs _ _ _ _ _ _ over before
           (record { pairs = done.pairs; not_lower = done.not_lower; not_higher = done.not_higher; full = done.full }))
+    ]
+
+pub balanced-requires-clause-low : goal.balanced-requires-clause-low
+balanced-requires-clause-low g t c =
+    let over = c.in-Some.ensures.some in
+    let level : c.take.result.height ≡ max c.in-Some.field-0.left.height c.in-Some.field-0.right.height + 1 = over.height in
+    let fits : length c.take.result.pairs < 2 ^ 64 = rw c.take.ensures.value (omega (arith, c.requires.few)) in
+    let low = low_height c.take.result over.full fits in
+    elim c.match-order.branch [
+      | in-Less w ↦ rw (w.left-is, w.right-is) (omega (arith, level, low, w.put.ensures.not_higher))
+      | in-Greater w ↦ rw (w.left-is, w.right-is) (omega (arith, level, low, w.put-in-Greater.ensures.not_higher))
     ]

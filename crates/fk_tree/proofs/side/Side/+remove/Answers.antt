@@ -4,6 +4,7 @@ use Rattle.fk_tree.proofs.Tops.{shorter_right, shorter_both}
 use Rattle.fk_tree.proofs.Takes.{take_left, take_right, take_left_pairs, take_right_pairs, told_left, told_right, there_middle, take_middle}
 use Rattle.fk_tree.proofs.side.Side.+remove.Goals as goal
 use Rattle.fk_tree.proofs.side.Side.+remove.Goals.{in-Less, in-Greater}
+use Rattle.fk_tree.proofs.Halves.{low_height}
 
 pub joined-requires-clause-sides : goal.joined-requires-clause-sides
 joined-requires-clause-sides g t c =
@@ -79,4 +80,15 @@ returns-clause-pairs g t c =
           let before = rw c.deref.ensures at (w.in-Greater.ensures.behind refl) in
           rw (c.balanced.ensures.pairs, w.left-is, w.right-is, ← c.take.ensures.value)
           (take_right_pairs _ _ _ w.remove-found-in-Greater.new.self _ _ over before w.remove-found-in-Greater.ensures.pairs)
+    ]
+
+pub balanced-requires-clause-low : goal.balanced-requires-clause-low
+balanced-requires-clause-low g t c =
+    let over = c.in-Some.ensures.some in
+    let level : c.take.result.height ≡ max c.in-Some.field-0.left.height c.in-Some.field-0.right.height + 1 = over.height in
+    let fits : length c.take.result.pairs < 2 ^ 64 = rw c.take.ensures.value (omega (arith, c.requires.few)) in
+    let low = low_height c.take.result over.full fits in
+    elim c.match-order.branch [
+      | in-Less w ↦ rw (w.left-is, w.right-is) (omega (arith, level, low, w.remove-found.ensures.not_higher))
+      | in-Greater w ↦ rw (w.left-is, w.right-is) (omega (arith, level, low, w.remove-found-in-Greater.ensures.not_higher))
     ]
