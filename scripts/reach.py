@@ -39,9 +39,10 @@ class Program:
         for trait, above in re.findall(r"\btrait (\w+)[^:{]*: ([^{]*)\{", text):
             self.implemented.setdefault(trait, set()).update(re.findall(r"\w+", above))
         imports = self.imports.setdefault(file, {})
+        here = {"crate", "super", "self", *sources.modules(crate)}
         for root, names in re.findall(r"^\s*use (\w+)::([^;]*);", text, re.M):
             for name in re.findall(r"\w+", names):
-                imports[name] = crate if root in ("crate", "super", "self") else root
+                imports[name] = crate if root in here else root
 
     def named(self, function, name):
         """The free functions that a name may mean where this function stands."""
@@ -49,6 +50,11 @@ class Program:
         here = [f for f in found if f.file == function.file]
         crate = self.imports[function.file].get(name)
         return here or [f for f in found if f.crate == crate]
+
+    def named_in(self, function, module, name):
+        """The free functions that a path of a module, or of a crate, and a name means."""
+        found = self.free.get(name, [])
+        return [f for f in found if f.crate == module or f.file.endswith("/%s/src/%s.rt" % (function.crate, module))]
 
     def methods_of(self, owners, name):
         """The methods of a name of these types, or those that their traits give them."""
@@ -104,6 +110,8 @@ class Body:
             found |= set(self.program.methods_of(self.meant(owner), name))
         for name in re.findall(r"(?<![\w.])(?:\.\.)?([a-z_]\w*)\b(?!\s*:[^:])", self.text):
             found |= set(self.program.named(self.function, name))
+        for module, name in re.findall(r"\b([a-z_]\w*)::([a-z_]\w*)", self.text):
+            found |= set(self.program.named_in(self.function, module, name))
         for match in re.finditer(r"\.\s*([a-z_]\w*)(?:::<[^>]*>)?\(", self.text):
             kinds = self.kinds_before(match.start())
             if kinds:
@@ -195,8 +203,7 @@ class Body:
             if match.group("let") and ":" in match.group("let"):
                 return self.types_in(match.group("let").partition(":")[2])
             if match.group().startswith("match"):
-                arms = self.text[match.end() : at]
-                if not re.search(r"\b%s\b" % name, arms.partition("{")[2]):
+                if not binds(self.text[match.end() : at].partition("{")[2], name):
                     continue
             return self.with_parts(self.kinds_at(match.end(), match.start()))
         return self.parameters.get(name, set())
@@ -219,6 +226,15 @@ class Body:
     def with_parts(self, kinds):
         """The types, and what their fields or variants are made of: a pattern takes them apart."""
         return kinds.union(*(self.program.parts.get(kind, set()) for kind in kinds))
+
+
+def binds(arms, name):
+    """Whether a pattern of a `match` has a name: behind it comes an arrow, before the arm after it begins."""
+    for found in re.finditer(r"\b%s\b(?![.(])" % name, arms):
+        pattern, arrow, _ = arms[found.end() :].partition("=>")
+        if arrow and not re.search(r";|[)}\]],\n", pattern):
+            return True
+    return False
 
 
 def begins(program, function):

@@ -64,6 +64,11 @@ def source_files(crate):
                 yield os.path.relpath(os.path.join(folder, name), TOP)
 
 
+def modules(crate):
+    """The names of a crate's modules, by its files."""
+    return {os.path.basename(file)[: -len(".rt")] for file in source_files(crate)}
+
+
 def root_of(crate):
     """The text of a library's first file, or nothing for a program."""
     root = os.path.join("crates", crate, "src", "lib.rt")
