@@ -109,10 +109,10 @@ def functions(crate):
     for file in source_files(crate):
         is_test = os.path.basename(file)[: -len(".rt")] in for_tests
         found += functions_in(crate, file, is_test)
-    at_root, modules = used(root_of(crate)), public_modules(crate)
+    at_root, public = used(root_of(crate)), public_modules(crate)
     for function in found:
         if function.owner is None and function.name not in at_root:
-            function.module = next((m for m in modules if function.name in modules[m]), None)
+            function.module = next((m for m in public if function.name in public[m]), None)
     return found
 
 
