@@ -56,8 +56,9 @@ pub record IsAnsweredSoFar (items : List Item) (history : List Entry) (written :
   pub whole : Begins (out answered (answers_in history)) (behind_greeting written)
   pub no_more : Begins written (output (answered ++ option_to_list begun) (answers_in history))
 
--- Bytes were taken that don't end the talk, and then one piece more. A turn was made for each ask of
--- the bytes before the piece, and all that is due to the whole lines in them was written.
+-- Bytes were taken that don't end the talk, and then a piece more: some bytes, no more than one read asks
+-- for. A turn was made for each ask of the bytes before the piece, and all that is due to the whole lines
+-- in them was written.
 pub record IsBehindByPiece (taken : List ℕ) (history : List Entry) (written : List ℕ) : Type 0 where
   pub before : List ℕ
   pub piece : List ℕ
@@ -73,7 +74,7 @@ pub record IsBehindByPiece (taken : List ℕ) (history : List Entry) (written : 
   pub asks : asks_in made ≡ asks_of items
   pub replies : Begins (output items (answers_in made)) written
 
--- All that is due to the whole lines in the bytes before the last piece was written, and none of those
+-- All that is due to the whole lines in the bytes before some last piece was written, and none of those
 -- ends the talk; or nothing was taken.
 abbrev pub IsPrompt : List ℕ → List Entry → List ℕ → Type 0
 IsPrompt taken history written = (taken ≡ []) ⊎ IsBehindByPiece taken history written

@@ -17,8 +17,9 @@ use fk_json::Text;
 use fk_model::{Ask, Item, Phase};
 use std::alloc::{AllocError, Global};
 
-/// What a whole line of a talk gives, if it gives anything. An ask is in range, since no line is long
-/// enough for one that isn't.
+/// What a whole line of a talk gives, if it gives anything. A turn may be made of an ask: no line is
+/// long enough for a job, a name or a list beyond its bound, and what serde_json decodes or writes is
+/// tested where it comes.
 pub fn read_item(alloc: Global, phase: Phase, line: &[u8]) -> Result<Option<Item>, AllocError>
     requires { length line.now ≤ longest_line }
     ensures items { IfOk result (λ item. AreItemsOf phase (Whole line.now) (option_to_list item)) }

@@ -1,4 +1,4 @@
-ghost use Rattle.std.specs.Prelude.{◌≡◌, ◌++◌, ◌+◌, ◌<◌, ◌≤◌, ◌↔◌, [], length, slice_get, Contains, IsOk, IsTrue, OnErr, OnOk};
+ghost use Rattle.std.specs.Prelude.{◌≡◌, ◌++◌, ◌+◌, ◌<◌, ◌≤◌, ◌↔◌, max, [], length, slice_get, Contains, IsOk, IsTrue, OnErr, OnOk};
 ghost use Rattle.fk_model.specs.Orders.{with_pair};
 ghost use Rattle.fk_tree.specs.Order.{up_to, without_pair, IsRising};
 ghost use Rattle.fk_tree.specs.Depth.{AreFew};
@@ -36,11 +36,12 @@ impl Timed {
         }
     }
 
-    /// Makes room for more pairs. The pairs stay, and so does the room that was there. Room for
-    /// 2^64 pairs in all is never there.
+    /// Makes room for more pairs. The pairs stay, and so does the room that was there: it is raised
+    /// to what is asked for, and never beyond.
     pub fn reserve(&mut self, more: usize) -> Result<(), AllocError>
         ensures ok { OnOk result (more ≤ self.new.spare) }
         ensures kept { self.old.spare ≤ self.new.spare }
+        ensures bound { self.new.spare ≤ max self.old.spare more }
         ensures same { self.new.items ≡ self.old.items }
         ensures ready { more ≤ self.old.spare → IsOk result }
     {

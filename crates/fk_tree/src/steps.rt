@@ -3,8 +3,8 @@ ghost use Rattle.std.specs.Prelude.{◌≡◌, ◌+◌, ◌-◌, ◌^◌, ◌<�
 use std::marker::Model;
 use std::sync::ledger::{Blank, Book, Ledger, Share};
 
-/// A count of comparisons. It only rises, by one for each comparison: the ledger's tokens see to
-/// that, and take no memory.
+/// A count of comparisons. Only this crate adds to it, one by one, and only `Key::order` does, which
+/// compares. The ledger's tokens, by which contracts see a number beyond 64 bits, take no memory.
 #[derive(Drop)]
 pub struct Steps<L: Ledger> {
     count: u64,

@@ -1,4 +1,4 @@
-ghost use Rattle.std.specs.Prelude.{◌≡◌, [], ◌++◌, ◌+◌, ◌<◌, ◌≤◌, ◌↔◌, length, slice_get, Contains, IsOk, IsTrue, OnErr, OnOk};
+ghost use Rattle.std.specs.Prelude.{◌≡◌, [], ◌++◌, ◌+◌, ◌<◌, ◌≤◌, ◌↔◌, max, length, slice_get, Contains, IsOk, IsTrue, OnErr, OnOk};
 ghost use Rattle.fk_tree.specs.Order.{up_to, with_pair, without_pair, AreOthers, IsRising};
 ghost use Rattle.fk_tree.specs.Depth.{AreFew};
 
@@ -45,11 +45,12 @@ impl Tree {
         }
     }
 
-    /// Makes room for more pairs. The pairs stay, and so does the room that was there. Room for
-    /// more than 2^64 - 1 pairs in all is never there.
+    /// Makes room for more pairs. The pairs stay, and so does the room that was there: it is raised
+    /// to what is asked for, and never beyond.
     pub fn reserve(&mut self, more: usize) -> Result<(), AllocError>
         ensures ok { OnOk result (more ≤ self.new.spare) }
         ensures kept { self.old.spare ≤ self.new.spare }
+        ensures bound { self.new.spare ≤ max self.old.spare more }
         ensures same { self.new.items ≡ self.old.items }
         ensures ready { more ≤ self.old.spare → IsOk result }
     {
