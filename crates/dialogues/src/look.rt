@@ -46,7 +46,7 @@ pub fn look_of(alloc: Global, text: &str) -> Result<Look, ScriptFault> {
         "next" => Ok(Look::Next),
         "processed" => Ok(Look::Processed),
         "failures" => Ok(Look::Failures),
-        "row" => Ok(Look::Row(number(rest)?)),
+        "ticket" => Ok(Look::Row(number(rest)?)),
         "fits" => Ok(Look::Fits(move_of(alloc, rest)?)),
         _ => Err(ScriptFault::NoLook),
     }
