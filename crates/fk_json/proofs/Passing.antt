@@ -7,12 +7,12 @@ use Rattle.std.proofs.lemmas.List.Sums.{prefix_len-le-length, prefix_len_stops}
 use Rattle.std.specs.Char.{is_ascii_digit}
 use Rattle.std.specs.List.{prefix_len}
 use Rattle.std.specs.Option.{option_and_then, option_map}
-use Rattle.fk_json.specs.Runs.{Passes, RunsTo, is_plain, through}
-use Rattle.fk_json.specs.Tokens.{behind_whole, character_first, number_step, raised_by, string_step, when}
+use Rattle.fk_json.specs.Runs.{AreFourDigits, Passes, RunsTo, is_plain, through}
+use Rattle.fk_json.specs.Tokens.{behind_whole, character_first, digit_then, is_hexadecimal, number_step, raised_by, string_step, when}
 use Rattle.fk_json.specs.declared.number_mode.NumberMode.{NumberMode}
 use Rattle.fk_json.specs.declared.number_mode.NumberMode.TheVariants.{Whole, Fraction, Exponent}
 use Rattle.fk_json.specs.declared.string_mode.StringMode.{StringMode}
-use Rattle.fk_json.specs.declared.string_mode.StringMode.TheVariants.{Inside, Escape, Closed}
+use Rattle.fk_json.specs.declared.string_mode.StringMode.TheVariants.{Inside, Escape, Four, Three, Two, One, Closed}
 
 abbrev range : List ℕ → ℕ → ℕ → List ℕ
 range text from to = take (to - from) (drop from text)
@@ -132,6 +132,25 @@ passes_plain text at to mode is l e =
     subst (λ m. Passes string_step text at m to m) (sym is)
     (passes_kept string_step is_plain text at to Inside
     (λ byte. plain_inside (byte == 34) (byte == 92) (nat_lt byte 32) (nat_lt byte 0x80) (character_first byte)) l e)
+
+digit_passes : (text : List ℕ) (at to : ℕ) (mode next : StringMode) → to ≡ at + 1 → at < length text
+    → ((byte : ℕ) → string_step mode byte ≡ digit_then byte next)
+    → is_hexadecimal (slice_index_or text at 0) ≡ true → Passes string_step text at mode to next
+digit_passes text at to mode next place l same digit =
+    subst (λ n. Passes string_step text at mode n next) (sym place)
+    (passes_byte string_step text at mode next l
+    (same (slice_index_or text at 0) ∙ ap (λ t. if t then Some next else None) digit))
+
+-- four digits of an escape lead on to the next part
+pub passes_four : (text : List ℕ) (at : ℕ) → AreFourDigits text at → Passes string_step text at Four (at + 4) Inside
+passes_four text at four =
+    passes_on string_step text at (at + 1) (at + 4) Four Three Inside
+    (digit_passes text at (at + 1) Four Three refl (omega (arith, four.within)) (λ b. refl) four.first)
+    (passes_on string_step text (at + 1) (at + 2) (at + 4) Three Two Inside
+    (digit_passes text (at + 1) (at + 2) Three Two (omega arith) (omega (arith, four.within)) (λ b. refl) four.second)
+    (passes_on string_step text (at + 2) (at + 3) (at + 4) Two One Inside
+    (digit_passes text (at + 2) (at + 3) Two One (omega arith) (omega (arith, four.within)) (λ b. refl) four.third)
+    (digit_passes text (at + 3) (at + 4) One Inside (omega arith) (omega (arith, four.within)) (λ b. refl) four.fourth)))
 
 -- digits lead on among digits of which there may be more
 digits_stay : (mode : NumberMode) → (mode ≡ Whole) ⊎ ((mode ≡ Fraction) ⊎ (mode ≡ Exponent)) → (byte : ℕ)

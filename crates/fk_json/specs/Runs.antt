@@ -1,10 +1,10 @@
 -- Bytes that are read at once: how they lead on inside of one token, or in the white space between
 -- two.
-use Rattle.std.specs.Prelude.{◌≡◌, ◌&&◌, ℕ, ◌≤◌, ◌<◌, Bool, nat_lt, List, [], ◌∷◌, length, option_map, slice_index, slice_range, Option, None, Some}
+use Rattle.std.specs.Prelude.{◌≡◌, ◌+◌, true, ◌&&◌, ℕ, ◌≤◌, ◌<◌, Bool, nat_lt, List, [], ◌∷◌, length, option_map, slice_index, slice_range, Option, None, Some}
 use Rattle.std.specs.Option.{option_and_then}
 use Rattle.fk_json.specs.Json.{is_space}
 use Rattle.fk_json.specs.String.{is_itself}
-use Rattle.fk_json.specs.Tokens.{string_step, token_step, when}
+use Rattle.fk_json.specs.Tokens.{is_hexadecimal, string_step, token_step, when}
 use Rattle.fk_json.specs.declared.mode.Mode.{Mode}
 use Rattle.fk_json.specs.declared.mode.Mode.TheVariants.{First, Next, Naming, Colon, Value, Within, After}
 use Rattle.fk_json.specs.declared.standing.Region.{Region}
@@ -33,6 +33,14 @@ pub record RunsTo {S : Type 0}
 -- a byte that stands for itself in a string, and is a character of its own
 abbrev pub is_plain : ℕ → Bool
 is_plain byte = is_itself byte && nat_lt byte 0x80
+
+-- four hexadecimal digits stand at a place
+pub record AreFourDigits (text : List ℕ) (at : ℕ) : Type 0 where
+  pub within : at + 4 ≤ length text
+  pub first : is_hexadecimal (slice_index text at) ≡ true
+  pub second : is_hexadecimal (slice_index text (at + 1)) ≡ true
+  pub third : is_hexadecimal (slice_index text (at + 2)) ≡ true
+  pub fourth : is_hexadecimal (slice_index text (at + 3)) ≡ true
 
 -- where a byte leads inside of a name or a value, and white space anywhere else between brackets
 abbrev pub stays_between : Mode → ℕ → Option Mode

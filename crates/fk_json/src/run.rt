@@ -1,13 +1,15 @@
 // Bytes that are read at once: the rest of a token, and white space between two.
+ghost use Rattle.std.specs.Bool.{OnTrue};
 ghost use Rattle.std.specs.Prelude.{◌≤◌, length};
-ghost use Rattle.fk_json.specs.Runs.{Passes, RunsTo, stays, stays_between};
+ghost use Rattle.fk_json.specs.Runs.{AreFourDigits, Passes, RunsTo, stays, stays_between};
 ghost use Rattle.fk_json.specs.Tokens.{letters_step, number_step, string_step, token_step};
+ghost use Rattle.fk_json.specs.declared.string_mode.StringMode.TheVariants.{Four};
 
 use crate::ends::{digits_end, plain_end, space_end};
 use crate::mode::Mode;
 use crate::number_mode::{NumberMode, number_step};
 use crate::standing::Region;
-use crate::string_mode::{StringMode, string_step};
+use crate::string_mode::{StringMode, is_hexadecimal, string_step};
 use crate::token::{Letters, Token, letters_step};
 
 /// How far bytes lead on, and where.
@@ -102,13 +104,15 @@ fn string_run(text: &[u8], from: usize, mode: StringMode) -> Run<StringMode>
     requires { from ≤ length text.now }
     ensures { RunsTo string_step text.now from mode result.to result.mode }
 {
-    let mut to = from;
-    let mut mode = mode;
+    let first = behind_part(text, from, mode);
+    let mut to = first.to;
+    let mut mode = first.mode;
     'parts: while to < text.len() {
         match string_step(mode, text[to]) {
             Some(next) => {
-                mode = next;
-                to = behind_run(text, to + 1, next);
+                let run = behind_part(text, to + 1, next);
+                to = run.to;
+                mode = run.mode;
             }
             None => break,
         }
@@ -116,15 +120,49 @@ fn string_run(text: &[u8], from: usize, mode: StringMode) -> Run<StringMode>
     Run { to, mode }
 }
 
-// Behind the plain bytes that stand here, where the scan is between parts of a string.
-fn behind_run(text: &[u8], from: usize, mode: StringMode) -> usize
+// Behind the plain bytes that stand here, or behind the four digits of an escape.
+fn behind_part(text: &[u8], from: usize, mode: StringMode) -> Run<StringMode>
     requires { from ≤ length text.now }
-    ensures { Passes string_step text.now from mode result mode }
+    ensures { Passes string_step text.now from mode result.to result.mode }
 {
     match mode {
-        StringMode::Inside => plain_end(text, from),
-        _ => from,
+        StringMode::Inside => Run {
+            to: plain_end(text, from),
+            mode,
+        },
+        StringMode::Four => behind_four(text, from),
+        _ => Run { to: from, mode },
     }
+}
+
+// Behind the four digits of an escape, where they stand here.
+fn behind_four(text: &[u8], from: usize) -> Run<StringMode>
+    requires { from ≤ length text.now }
+    ensures { Passes string_step text.now from Four result.to result.mode }
+{
+    if are_four_digits(text, from) {
+        Run {
+            to: from + 4,
+            mode: StringMode::Inside,
+        }
+    } else {
+        Run {
+            to: from,
+            mode: StringMode::Four,
+        }
+    }
+}
+
+// Whether four hexadecimal digits stand here.
+fn are_four_digits(text: &[u8], from: usize) -> bool
+    requires { from ≤ length text.now }
+    ensures { OnTrue result (AreFourDigits text.now from) }
+{
+    text.len() - from >= 4
+        && is_hexadecimal(text[from])
+        && is_hexadecimal(text[from + 1])
+        && is_hexadecimal(text[from + 2])
+        && is_hexadecimal(text[from + 3])
 }
 
 // Reads on to the end of a number.

@@ -99,7 +99,7 @@ fn digit_then(byte: u8, next: StringMode) -> Option<StringMode>
     }
 }
 
-fn is_hexadecimal(byte: u8) -> bool
+pub(crate) fn is_hexadecimal(byte: u8) -> bool
     ensures { result ≡ is_hexadecimal byte }
 {
     byte.is_ascii_digit() || b'A' <= byte && byte <= b'F' || b'a' <= byte && byte <= b'f'

@@ -8,4 +8,4 @@ parts-preserved c =
     let led = sym c.string_step.ensures ∙ c.in-Some.is in
     passes_on string_step _ _ _ _ _ _ _
     (passes_on string_step _ _ _ _ _ _ _ c.parts.invariant (passes_byte string_step _ _ _ _ c.parts-test.true led))
-    c.behind_run-to.ensures
+    c.behind_part-run.ensures
