@@ -1,21 +1,16 @@
 -- What a byte does that doesn't lead on inside of a token or of white space.
-use Rattle.std.proofs.Common.{◌≡◌, ℕ, Bool, true, false, ◌==◌, if◌then◌else◌, List, Option, None, Some, refl, sym, ap, subst, ◌∙◌}
+use Rattle.std.proofs.Common.{◌≡◌, ℕ, Bool, true, false, ◌==◌, if◌then◌else◌, None, refl, sym, ap, subst, ◌∙◌}
 use Rattle.std.proofs.lemmas.Option.{none-some}
-use Rattle.std.specs.Option.{option_map}
 use Rattle.fk_json.specs.Json.{is_space}
-use Rattle.fk_json.specs.Moves.{Move, To, Names, Begins, Opens, Closes, Named, Ended, Stops, begun, behind_item, behind_name, behind_value, closing, colon_at, core_move, first_at, item_at, move_of, name_led, value_at, value_led}
+use Rattle.fk_json.specs.Moves.{To, Closes, Stops, behind_item, closing, colon_at, core_move, move_of}
 use Rattle.fk_json.specs.Runs.{stays_between}
-use Rattle.fk_json.specs.Standing.{between_by, ended_at, moved, named_at}
+use Rattle.fk_json.specs.Standing.{between_by, moved}
 use Rattle.fk_json.specs.Step.{Step}
-use Rattle.fk_json.specs.Step as step
-use Rattle.fk_json.specs.Tokens.{string_ends, string_step, token_ends, token_first, token_step, when}
+use Rattle.fk_json.specs.Tokens.{when}
 use Rattle.fk_json.specs.declared.mode.Bracket.{Bracket}
-use Rattle.fk_json.specs.declared.mode.Bracket.TheVariants.{Array, Object}
 use Rattle.fk_json.specs.declared.mode.Mode.{Mode}
-use Rattle.fk_json.specs.declared.mode.Mode.TheVariants.{First, Next, Naming, Colon, Value, Within, After}
+use Rattle.fk_json.specs.declared.mode.Mode.TheVariants.{Next, Colon, Value, After}
 use Rattle.fk_json.specs.declared.standing.Standing.{Standing}
-use Rattle.fk_json.specs.declared.string_mode.StringMode.{StringMode}
-use Rattle.fk_json.specs.declared.token.Token.{Token}
 
 no_when : {A : Type 0} (test : Bool) (next : A) → when test next ≡ None → test ≡ false
 no_when true next e = absurd (none-some next (sym e))

@@ -1,12 +1,11 @@
 -- Bytes that stand for themselves in a string, read and written at once.
-use Rattle.std.proofs.Common.{◌≡◌, ℕ, zero, suc, ◌+◌, Bool, true, false, not, ◌&&◌, ◌==◌, nat_lt, cond, if◌then◌else◌, List, [], ◌∷◌, ◌++◌, take, drop, flat_map, codes, Option, None, Some, refl, sym, ap, subst, ◌∙◌, arith}
+use Rattle.std.proofs.Common.{◌≡◌, ℕ, suc, ◌+◌, Bool, true, false, cond, List, [], ◌∷◌, ◌++◌, take, drop, flat_map, Option, None, Some, refl, sym, ap, subst, ◌∙◌, arith}
 use Rattle.std.specs.List.{prefix_len, take_while}
 use Rattle.std.proofs.lemmas.Bool.{le-ltb, ne_eqb}
 use Rattle.std.proofs.lemmas.Bool.Decides.{nat_tests}
 use Rattle.std.proofs.lemmas.List.{append-nil, append_assoc}
 use Rattle.fk_json.specs.Pieces.{GainsBehind, Takes, sense}
-use Rattle.fk_json.specs.String.{IsPart, byte, is_itself, spelled_byte, spelled_control}
-use Rattle.fk_json.specs.declared.piece.Piece.{Piece}
+use Rattle.fk_json.specs.String.{IsPart, byte, is_itself, spelled_byte}
 use Rattle.fk_json.specs.declared.piece.Piece.TheVariants.{Byte}
 use Rattle.fk_json.proofs.Parts.{Reading, begins, goes_on}
 

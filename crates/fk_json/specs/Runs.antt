@@ -6,11 +6,9 @@ use Rattle.fk_json.specs.Json.{is_space}
 use Rattle.fk_json.specs.String.{is_itself}
 use Rattle.fk_json.specs.Tokens.{is_hexadecimal, string_step, token_step, when}
 use Rattle.fk_json.specs.declared.mode.Mode.{Mode}
-use Rattle.fk_json.specs.declared.mode.Mode.TheVariants.{First, Next, Naming, Colon, Value, Within, After}
+use Rattle.fk_json.specs.declared.mode.Mode.TheVariants.{Naming, Within}
 use Rattle.fk_json.specs.declared.standing.Region.{Region}
-use Rattle.fk_json.specs.declared.standing.Region.TheVariants.{Before, Between, Behind}
-use Rattle.fk_json.specs.declared.string_mode.StringMode.{StringMode}
-use Rattle.fk_json.specs.declared.token.Token.{Token}
+use Rattle.fk_json.specs.declared.standing.Region.TheVariants.{Between}
 
 -- where bytes lead, step by step, where each of them leads on
 abbrev pub through : {S : Type 0} → (S → ℕ → Option S) → S → List ℕ → Option S
