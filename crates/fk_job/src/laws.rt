@@ -1,8 +1,8 @@
 //! Laws over the definitions of jobs and their texts. Each is the contract of a function that does nothing.
 
-ghost use Rattle.std.specs.Prelude.{List, ℕ};
+ghost use Rattle.std.specs.Prelude.{List, length, ℕ};
 ghost use Rattle.fk_job.specs.Again.{HasCount, HasUtf8Texts, IsSameJob};
-ghost use Rattle.fk_job.specs.JobText.{IsJobOf};
+ghost use Rattle.fk_job.specs.JobText.{IsJobOf, IsWithin};
 ghost use Rattle.fk_job.specs.RowText.{row_text};
 ghost use Rattle.fk_job.specs.Spellings.{HasJobSpelling, IsText};
 ghost use Rattle.fk_job.specs.declared.job.Job.{Job as AJob};
@@ -17,8 +17,11 @@ pub fn a_written_job_is_read_again()
         → (again : AJob) × IsJobOf (row_text job stamp) again × IsSameJob job again }
 {}
 
-/// A file can hold the job of a text of fewer than 2^32 bytes.
+/// The texts of a job are no longer than the text that it is the job of, and a file can hold it where
+/// that has fewer than 2^32 bytes.
 pub fn the_job_of_a_text_has_a_spelling()
-    ensures { (text : List ℕ) (job : AJob)
+    ensures within { (text : List ℕ) (job : AJob)
+        → IsJobOf text job → IsWithin (length text) job }
+    ensures spelled { (text : List ℕ) (job : AJob)
         → IsText text → IsJobOf text job → HasJobSpelling job }
 {}

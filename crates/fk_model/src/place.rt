@@ -1,8 +1,7 @@
-ghost use Rattle.std.specs.Prelude.{◌≡◌, IfOk};
-ghost use Rattle.fk_model.specs.Orders.{leased_until, rank_of};
+ghost use Rattle.std.specs.Prelude.{◌≡◌};
+ghost use Rattle.fk_model.specs.Orders.{rank_of};
 
 use fk_json::Text;
-use std::alloc::AllocError;
 
 /// Where a row stands: in exactly one of five sets. Moments are in milliseconds since
 /// 1970-01-01T00:00:00Z.
@@ -30,32 +29,5 @@ impl Place {
             Place::Queued { rank } => Some(*rank),
             _ => None,
         }
-    }
-
-    /// The moment until which a worker has the row, in milliseconds since 1970-01-01T00:00:00Z.
-    pub fn leased_until(&self) -> Option<u64>
-        ensures { result ≡ leased_until self.now }
-    {
-        match self {
-            Place::Working { until, .. } => Some(*until),
-            _ => None,
-        }
-    }
-
-    /// An equal place.
-    pub fn copied(&self) -> Result<Place, AllocError>
-        ensures { IfOk result (λ copy. copy ≡ self.now) }
-    {
-        Ok(match self {
-            Place::Queued { rank } => Place::Queued { rank: *rank },
-            Place::Scheduled { at } => Place::Scheduled { at: *at },
-            Place::Retry { at } => Place::Retry { at: *at },
-            Place::Dead { until } => Place::Dead { until: *until },
-            Place::Working { wid, since, until } => Place::Working {
-                wid: wid.copied()?,
-                since: *since,
-                until: *until,
-            },
-        })
     }
 }
