@@ -1,3 +1,4 @@
+pub mod Short
 pub mod Text
 pub mod String
 pub mod Number

@@ -3,16 +3,21 @@ ghost use Rattle.std.specs.Ordering.{nat_cmp};
 ghost use Rattle.std.specs.Cmp.Lexicographic.{pointwise, slice_cmp, nat_list_eq_equiv, nat_list_cmp_total, texts_po, texts_ties};
 ghost use Rattle.std.specs.Cmp.{partial_equiv_from_equiv};
 
+use crate::form::Form;
 use std::alloc::{AllocError, Global};
 use std::cmp::Ordering;
 use std::marker::Model;
+use std::mem::size_of;
 
-/// A list of bytes, of any encoding. A fixed one stands in the program and takes no memory.
+/// A list of bytes, of any encoding. A fixed one stands in the program, and a short one, of at most 30
+/// bytes, in the text itself: neither takes memory.
 #[derive(Debug, Drop)]
 pub struct Text {
-    fixed: Option<&'static [u8]>,
-    owned: Vec<u8>,
+    form: Form,
+    alloc: Global,
 }
+
+const _: () = prove!(size_of::<Text>() == 32);
 
 impl Model for Text {
     ghost use Rattle.std.specs.Prelude.{ℕ, List};
@@ -20,7 +25,7 @@ impl Model for Text {
 
     ghost Value = { List ℕ };
 
-    ghost view = { λ t. bytes_of t.fixed t.owned.items };
+    ghost view = { λ t. bytes_of t.form };
 }
 
 impl Text {
@@ -29,18 +34,18 @@ impl Text {
         ensures { result ≡ bytes.now }
     {
         Text {
-            fixed: Some(bytes),
-            owned: Vec::new(alloc),
+            form: Form::Fixed(bytes),
+            alloc,
         }
     }
 
     /// An empty text with room for so many bytes.
-    pub(crate) fn with_room(alloc: Global, room: usize) -> Result<Text, AllocError>
+    pub fn with_room(alloc: Global, room: usize) -> Result<Text, AllocError>
         ensures { IfOk result (λ text. text ≡ []) }
     {
         Ok(Text {
-            fixed: None,
-            owned: Vec::with_capacity(alloc, room)?,
+            form: Form::with_room(alloc, room)?,
+            alloc,
         })
     }
 
@@ -49,16 +54,19 @@ impl Text {
         ensures { IfOk result (λ text. text ≡ bytes.now) }
     {
         Ok(Text {
-            fixed: None,
-            owned: Vec::from_slice(alloc, bytes)?,
+            form: Form::joined(alloc, b"", bytes)?,
+            alloc,
         })
     }
 
-    /// An equal text.
+    /// An equal text. That of a fixed text is fixed.
     pub fn copied(&self) -> Result<Text, AllocError>
         ensures { IfOk result (λ text. text ≡ self.now) }
     {
-        Text::copy(*self.owned.allocator(), self.bytes())
+        match self.form {
+            Form::Fixed(bytes) => Ok(Text::fixed(self.alloc, bytes)),
+            _ => Text::copy(self.alloc, self.bytes()),
+        }
     }
 
     /// Adds bytes at the end, or leaves the text as it is.
@@ -66,28 +74,18 @@ impl Text {
         ensures ok { OnOk result (self.new ≡ self.old ++ bytes.now) }
         ensures err { OnErr result (self.new ≡ self.old) }
     {
-        if let Some(fixed) = self.fixed {
-            let mut owned = Vec::from_slice(*self.owned.allocator(), fixed)?;
-            owned.extend_from_slice(bytes)?;
-            self.owned = owned;
-            self.fixed = None;
-            return Ok(());
-        }
-        self.owned.extend_from_slice(bytes)
+        self.form.push_bytes(self.alloc, bytes)
     }
 
     // Where copies of the text take their memory.
     pub(crate) fn allocator(&self) -> Global {
-        *self.owned.allocator()
+        self.alloc
     }
 
     pub fn bytes(&self) -> &[u8]
         ensures { result.now ≡ self.now }
     {
-        match self.fixed {
-            Some(fixed) => fixed,
-            None => &self.owned,
-        }
+        self.form.bytes()
     }
 
     /// The number of bytes.
