@@ -7,7 +7,7 @@ use Rattle.std.proofs.lemmas.List.{get_or-drop, drop-drop, length-drop, get_or_d
 use Rattle.std.proofs.lemmas.List.Sums.{position_or_len_is, fails_before_first, passes_at_first, prefix_len-le-length}
 use Rattle.fk_frame.specs.Bytes.{line_feed, is_line_feed}
 use Rattle.fk_frame.specs.Lines.{longest_line, is_too_long, without_return}
-use Rattle.fk_frame.specs.Reading.{front_of, IsFirstLine, HasNoLine, HasLongLine}
+use Rattle.fk_frame.specs.Reading.{front_of, IsFirstLine, HasLine, HasNoLine, HasLongLine}
 use Rattle.fk_frame.specs.Scanned.{IsScanned}
 use Rattle.fk_frame.proofs.Lines.{no_lines, first_then_rest, long_first, front_grows}
 
@@ -100,8 +100,8 @@ no_line bytes from scanned end seen is all short =
     record { unended = unended; fits = fits; same = refl; lines = no_lines (drop from bytes) unended fits }
 
 -- a stream whose first line feed stands within it has one
-has_line : (xs : List ℕ) → position_or_len is_line_feed xs < length xs → Contains xs line_feed
-has_line xs within = (
+holds_end : (xs : List ℕ) → position_or_len is_line_feed xs < length xs → Contains xs line_feed
+holds_end xs within = (
   position_or_len is_line_feed xs,
   within,
   eqb-true _ _ (passes_at_first is_line_feed xs line_feed within),
@@ -115,7 +115,7 @@ first_line bytes from scanned end seen is found short =
     let first = first_is bytes from scanned seen in
     let within : position_or_len is_line_feed (drop from bytes) < length (drop from bytes) =
     omega (arith, length-drop {A = ℕ}) in
-    let ended = has_line (drop from bytes) within in
+    let ended = holds_end (drop from bytes) within in
     let whole = front_is bytes from scanned end seen is in
     let fits = rw whole at (is_no_longer _ short) in
     let front = ap without_return whole in
@@ -128,3 +128,13 @@ first_line bytes from scanned end seen is found short =
       behind = behind;
       lines = λ more. rw (front, behind) (first_then_rest (drop from bytes) more ended fits);
     }
+
+-- so the stream has one
+pub has_line : (bytes : List ℕ) (from scanned end : ℕ) → IsScanned bytes from scanned
+    → end ≡ scan_end bytes scanned → end < length bytes → is_too_long (slice_range bytes from end) ≡ false
+    → HasLine (drop from bytes)
+has_line bytes from scanned end seen is found short = (
+  without_return (slice_range bytes from end),
+  drop (end + 1) bytes,
+  first_line bytes from scanned end seen is found short,
+)

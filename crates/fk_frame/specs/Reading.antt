@@ -19,6 +19,10 @@ pub record IsFirstLine (stream line rest : List ℕ) : Type 0 where
   pub behind : rest ≡ after_first is_line_feed stream
   pub lines : (more : List ℕ) → lines_of (stream ++ more) ≡ Whole line ∷ lines_of (rest ++ more)
 
+-- the stream has a whole line in front, which isn't too long
+abbrev pub HasLine : List ℕ → Type 0
+HasLine stream = (line rest : List ℕ) × IsFirstLine stream line rest
+
 -- no line ends in the stream, its bytes still fit into one, and it stays
 pub record HasNoLine (stream rest : List ℕ) : Type 0 where
   pub unended : ¬ Contains stream line_feed

@@ -1,8 +1,8 @@
-ghost use Rattle.std.specs.Prelude.{◌≡◌, ◌≤◌, ◌+◌, ◌++◌, [], length, drop, IfOk, OnErr, OnOk};
+ghost use Rattle.std.specs.Prelude.{◌≡◌, ◌<◌, ◌≤◌, ◌+◌, ◌++◌, [], length, drop, IfOk, OnErr, OnOk};
 ghost use Rattle.std.specs.List.{position, position_or_len};
 ghost use Rattle.fk_frame.specs.Bytes.{is_line_feed};
 ghost use Rattle.fk_frame.specs.Lines.{is_too_long, without_return};
-ghost use Rattle.fk_frame.specs.Reading.{Reads};
+ghost use Rattle.fk_frame.specs.Reading.{HasLine, Reads};
 
 use fk_json::Text;
 use std::alloc::{AllocError, Global};
@@ -56,19 +56,23 @@ impl LineReader {
         }
     }
 
-    /// Takes the next bytes of the stream, or leaves the reader as it is.
+    /// Takes the next bytes of the stream, or leaves the reader as it is where there is no room for
+    /// them.
     pub fn feed(&mut self, piece: &[u8]) -> Result<(), AllocError>
         ensures ok { OnOk result (self.new ≡ self.old ++ piece.now) }
         ensures err { OnErr result (self.new ≡ self.old) }
+        ensures wanted { OnErr result (0 < length piece.now) }
     {
         self.give_up_front();
         self.buffer.extend_from_slice(piece)
     }
 
-    /// Gives out the next line, or leaves the reader as it is.
+    /// Gives out the next line, or leaves the reader as it is where it has a whole line, and there is
+    /// no memory for that.
     pub fn next(&mut self) -> Result<Line, AllocError>
         ensures ok { IfOk result (λ line. Reads self.old line self.new) }
         ensures err { OnErr result (self.new ≡ self.old) }
+        ensures wanted { OnErr result (HasLine self.old) }
     {
         let end = line_end(&self.buffer, self.scanned);
         let line = &self.buffer[self.from..end];

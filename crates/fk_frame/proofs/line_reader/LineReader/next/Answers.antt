@@ -1,5 +1,6 @@
 use Rattle.std.proofs.Common.{◌≡◌, ◌<◌, ◌∙◌, length, arith, sym}
-use Rattle.fk_frame.proofs.Scans.{scanned_on, no_line, long_line, first_line}
+use Rattle.std.proofs.lemmas.Result.{err_from_is_err_and}
+use Rattle.fk_frame.proofs.Scans.{scanned_on, no_line, long_line, first_line, has_line}
 use Rattle.fk_frame.proofs.line_reader.LineReader.next.Goals as goal
 
 pub invariant_of-self : goal.invariant_of-self
@@ -22,6 +23,14 @@ returns-then-end-len-clause-ok c =
     let short = rw c.deref-2.ensures.value at (sym c.is_too_long.ensures ∙ c.if-is_too_long.false) in
     let all : c.line_end-end.result ≡ length c.self.inside.buffer.items = cc in
     rw (← c.self.view_is) (no_line _ _ _ _ c.self.invariant place all short)
+
+pub returns-in_err-text-clause-wanted : goal.returns-in_err-text-clause-wanted
+returns-in_err-text-clause-wanted c =
+    let p = err_from_is_err_and c.from_residual.result c.from_residual.ensures.1 in
+    let place = rw c.deref.ensures.value at c.line_end-end.ensures.place in
+    let short = rw c.deref-2.ensures.value at (sym c.is_too_long.ensures ∙ c.if-is_too_long.false) in
+    let found : c.line_end-end.result < length c.self.inside.buffer.items = omega arith in
+    rw (p.1, ← c.self.view_is) (has_line _ _ _ _ c.self.invariant place found short)
 
 pub returns-clause-ok : goal.returns-clause-ok
 returns-clause-ok c =
