@@ -4,7 +4,7 @@ use Rattle.std.specs.Prelude.{None, Some, slice_get, slice_set, unwrap_or, is_so
 use Rattle.std.proofs.lemmas.Bool.{false≢true}
 use Rattle.std.proofs.lemmas.List.{drop-set-lt}
 use Rattle.fk_model.specs.declared.move_.Move.{Move}
-use Rattle.fk_model.specs.MoveList.{Room as MoveRoom}
+use Rattle.fk_json.specs.Roomy.{Room}
 use Rattle.fk_model.specs.Changes.{after_move, after_moves, Fits, FitInTurn}
 use Rattle.fk_model.proofs.Leading.{after_both}
 use Rattle.fk_core.specs.Held.{Held}
@@ -59,7 +59,7 @@ some_there (x ∷ xs) (suc at) within none = some_there xs at (omega arith) none
 
 -- of a list of moves, those before a place were made: the others fit, there is room for them, and for yet
 -- others where there was, and the list has the others still
-pub record HasMade (moves left : MoveRoom) (at : ℕ) (before after : Held) : Type 0 where
+pub record HasMade (moves left : Room Move) (at : ℕ) (before after : Held) : Type 0 where
   pub kept : after.kept ≡ after_moves before.kept (take at moves.items)
   pub fit : FitInTurn after.kept (drop at moves.items)
   pub room : (others : List Move) → Reserved before (moves.items ++ others)
@@ -68,14 +68,14 @@ pub record HasMade (moves left : MoveRoom) (at : ℕ) (before after : Held) : Ty
   pub count : length left.items ≡ length moves.items
   pub spare : left.spare ≡ moves.spare
 
-next_left : (moves left : MoveRoom) (at : ℕ) (before between : Held) (move : Move)
+next_left : (moves left : Room Move) (at : ℕ) (before between : Held) (move : Move)
     → HasMade moves left at before between → Some move ≡ slice_get left.items at
     → drop at moves.items ≡ move ∷ drop (suc at) moves.items
 next_left moves left at before between move made there =
     left_some moves.items at move (sym (there ∙ same_there left.items moves.items at made.others))
 
 -- the next one fits
-pub next_fits : (moves left : MoveRoom) (at : ℕ) (before between : Held) (move : Move)
+pub next_fits : (moves left : Room Move) (at : ℕ) (before between : Held) (move : Move)
     → HasMade moves left at before between → Some move ≡ slice_get left.items at
     → Fits between.kept move
 unfolding FitInTurn
@@ -99,7 +99,7 @@ first_room held move moves reserved = record {
 }
 
 -- and there is room for it
-pub next_room : (moves left : MoveRoom) (at : ℕ) (before between : Held) (move : Move)
+pub next_room : (moves left : Room Move) (at : ℕ) (before between : Held) (move : Move)
     → HasMade moves left at before between → Some move ≡ slice_get left.items at
     → Reserved before moves.items → Reserved between (move ∷ [])
 next_room moves left at before between move made there reserved =
@@ -108,7 +108,7 @@ next_room moves left at before between move made there reserved =
     (rw (next_left moves left at before between move made there) at all)
 
 -- then one more is made
-pub one_made : (moves left now : MoveRoom) (at : ℕ) (before between after : Held) (move other : Move)
+pub one_made : (moves left now : Room Move) (at : ℕ) (before between after : Held) (move other : Move)
     → HasMade moves left at before between → Some move ≡ slice_get left.items at
     → now.items ≡ slice_set left.items at other → now.spare ≡ left.spare → Makes move between after
     → HasMade moves now (at + 1) before after

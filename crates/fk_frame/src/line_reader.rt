@@ -12,7 +12,7 @@ use std::marker::Model;
 pub const LINE_MAX: usize = 4_194_304;
 
 /// What a reader of lines has next.
-#[derive(Debug, Drop)]
+#[derive(Drop)]
 pub enum Line {
     /// A whole line, without its LF and without the CR before that.
     Whole(Text),
@@ -26,7 +26,7 @@ pub enum Line {
 ///
 /// Bytes in front of `from` were given out, and those from there to `scanned` hold no LF, so no
 /// byte is looked at twice. What was given out is cut off when at least half of the buffer is.
-#[derive(Debug, Drop)]
+#[derive(Drop)]
 pub struct LineReader {
     buffer: Vec<u8>,
     from: usize,

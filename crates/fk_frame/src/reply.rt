@@ -7,7 +7,7 @@ use fk_json::Text;
 use std::alloc::{AllocError, Global};
 
 /// What the server answers to one command.
-#[derive(Debug, Drop)]
+#[derive(Drop)]
 pub enum Reply {
     /// It went well.
     Status(Text),

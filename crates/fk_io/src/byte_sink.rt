@@ -9,7 +9,7 @@ use std::alloc::{AllocError, Global};
 use std::marker::Model;
 
 /// A sink in memory. It holds what was written, and fails at the calls that are listed.
-#[derive(Debug, Drop)]
+#[derive(Drop)]
 pub struct ByteSink {
     held: Vec<u8>,
     failing: Vec<u64>,

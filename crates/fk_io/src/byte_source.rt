@@ -9,7 +9,7 @@ use std::marker::Model;
 
 /// A source in memory. It gives its bytes in the pieces that the cuts say, and fails at the calls
 /// that are listed.
-#[derive(Debug, Drop)]
+#[derive(Drop)]
 pub struct ByteSource {
     bytes: Vec<u8>,
     given: usize,

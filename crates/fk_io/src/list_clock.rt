@@ -7,7 +7,7 @@ use std::alloc::{AllocError, Global};
 use std::marker::Model;
 
 /// A clock in memory. It is seen as the moments that it still tells.
-#[derive(Debug, Drop)]
+#[derive(Drop)]
 pub struct ListClock {
     told: Telling,
 }

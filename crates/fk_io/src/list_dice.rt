@@ -6,7 +6,7 @@ use std::alloc::{AllocError, Global};
 use std::marker::Model;
 
 /// Dice in memory. They are seen as the words that they still tell.
-#[derive(Debug, Drop)]
+#[derive(Drop)]
 pub struct ListDice {
     told: Telling,
 }

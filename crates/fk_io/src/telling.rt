@@ -6,7 +6,7 @@ use std::marker::Model;
 
 /// A list that is told one item a call, and its last item for ever. It is seen as what is still
 /// told.
-#[derive(Debug, Drop)]
+#[derive(Drop)]
 pub(crate) struct Telling {
     items: Vec<u64>,
     place: usize,

@@ -1,4 +1,3 @@
-pub mod Jobs
 pub mod RowText
 pub mod Faults
 pub mod Members

@@ -4,7 +4,7 @@ use fk_json::{Text, Texts};
 use std::alloc::AllocError;
 
 /// How a job failed the last time, and how often it did.
-#[derive(Debug, Drop)]
+#[derive(Drop)]
 pub struct Failure {
     /// How many failures came before this one. It stands still at its type's end.
     pub count: u64,

@@ -1,10 +1,10 @@
 ghost use Rattle.std.specs.Prelude.{◌≡◌, IfOk};
 
-use fk_json::Text;
+use fk_json::{ListWithRoom, Text};
 use std::alloc::AllocError;
 
 /// A job as a producer sends it, with the defaults of what it leaves out.
-#[derive(Debug, Drop)]
+#[derive(Drop)]
 pub struct Job {
     /// The producer's name for it, of at least 8 bytes.
     pub jid: Text,
@@ -23,6 +23,9 @@ pub struct Job {
     /// The members that are handed on as they were sent, with commas between them.
     pub body: Text,
 }
+
+/// A list of jobs, and room for more.
+pub type Jobs = ListWithRoom<Job>;
 
 impl Job {
     /// An equal job.

@@ -7,7 +7,6 @@ mod failure;
 mod fault;
 mod fields;
 mod job;
-mod jobs;
 pub mod laws;
 mod named;
 mod reading;
@@ -17,8 +16,7 @@ mod writing;
 
 pub use failure::Failure;
 pub use fault::JobFault;
-pub use job::Job;
-pub use jobs::Jobs;
+pub use job::{Job, Jobs};
 pub use named::string_of;
 pub use reading::read_job;
 pub use stamp::Stamp;

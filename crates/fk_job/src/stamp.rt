@@ -5,7 +5,7 @@ use std::alloc::AllocError;
 
 /// What the server adds to a job: moments in milliseconds since 1970-01-01T00:00:00Z, and how it
 /// failed.
-#[derive(Debug, Drop)]
+#[derive(Drop)]
 pub struct Stamp {
     /// When it was pushed.
     pub created: u64,

@@ -15,5 +15,5 @@ pub mod Runs
 pub mod Remainder
 pub mod Reached
 pub mod Cursors
-pub mod Pairs
+pub mod Roomy
 pub mod Pieces

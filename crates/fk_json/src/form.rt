@@ -6,7 +6,7 @@ use crate::short::{MOST_SHORT, Short};
 use std::alloc::{AllocError, Global};
 
 /// In the program, in the text itself, or in memory of the text's own.
-#[derive(Debug, Drop)]
+#[derive(Drop)]
 pub(crate) enum Form {
     Fixed(&'static [u8]),
     Short(Short),

@@ -2,7 +2,7 @@ use crate::{ListOf, Text};
 
 /// One member of a JSON object: its decoded name, where the name stands with its quotes, and where
 /// the value stands.
-#[derive(Debug, Drop)]
+#[derive(Drop)]
 pub struct Member {
     pub name: Text,
     pub name_from: usize,

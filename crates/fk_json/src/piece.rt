@@ -11,7 +11,7 @@ use crate::Text;
 use std::alloc::AllocError;
 
 /// What a part brings: a byte, or sixteen bits that may be half a character.
-#[derive(Clone, Copy, Debug, PartialEq, Eq)]
+#[derive(Clone, Copy, PartialEq, Eq)]
 pub(crate) enum Piece {
     Byte(u8),
     Unit(u16),

@@ -7,7 +7,7 @@ use std::marker::Model;
 pub(crate) const MOST_SHORT: usize = 30;
 
 /// A few bytes that take no memory beside their own place.
-#[derive(Debug, Drop)]
+#[derive(Drop)]
 pub(crate) struct Short {
     len: u8,
     held: [u8; MOST_SHORT],

@@ -11,7 +11,7 @@ use std::mem::size_of;
 
 /// A list of bytes, of any encoding. A fixed one stands in the program, and a short one, of at most 30
 /// bytes, in the text itself: neither takes memory.
-#[derive(Debug, Drop)]
+#[derive(Drop)]
 pub struct Text {
     form: Form,
     alloc: Global,

@@ -13,7 +13,7 @@ use std::marker::Model;
 
 /// The list of one name, and how many pairs more it takes without memory. That is a count of its
 /// own: behind it, the memory grows by doubling.
-#[derive(Debug, Drop)]
+#[derive(Drop)]
 pub(crate) struct PairList {
     pairs: VecDeque<(u64, u64)>,
     spare: usize,

@@ -1,7 +1,7 @@
 use fk_json::{ListOf, Text};
 
 /// A name, and how many pairs it has.
-#[derive(Debug, Drop)]
+#[derive(Drop)]
 pub struct Size {
     pub name: Text,
     pub count: u64,

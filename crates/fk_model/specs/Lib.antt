@@ -2,7 +2,6 @@ pub mod Commands
 pub mod Payloads
 pub mod Script
 pub mod Advance
-pub mod MoveList
 pub mod Limits
 pub mod Rows
 pub mod State

@@ -1,7 +1,7 @@
 use fk_frame::Reply;
 
 /// How a turn ended. The state is as before it but after `Said`.
-#[derive(Debug, Drop)]
+#[derive(Drop)]
 pub enum Answer {
     /// The turn was made, and this is its reply.
     Said(Reply),

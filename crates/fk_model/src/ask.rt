@@ -3,7 +3,7 @@ use fk_job::Job;
 use fk_json::{Text, Texts};
 
 /// What one turn of the server is asked for.
-#[derive(Debug, Drop)]
+#[derive(Drop)]
 pub enum Ask {
     /// A worker says its name.
     Hello {

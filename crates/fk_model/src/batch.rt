@@ -5,7 +5,7 @@ use std::marker::Model;
 
 /// Jobs that are pushed at once, seen as the jobs in order and nothing else: two batches of the
 /// same jobs are equal, whatever room their lists have.
-#[derive(Debug, Drop)]
+#[derive(Drop)]
 pub struct Batch {
     jobs: Jobs,
 }

@@ -1,7 +1,7 @@
 use crate::{Answer, Ask, Told};
 
 /// One turn in the history of a server.
-#[derive(Debug, Drop)]
+#[derive(Drop)]
 pub struct Entry {
     /// The number of the seat that asked, from 0.
     pub seat: u64,

@@ -2,7 +2,7 @@ use crate::Ask;
 use fk_frame::Reply;
 
 /// How far the talk on one connection has come.
-#[derive(Clone, Copy, Debug, PartialEq, Eq)]
+#[derive(Clone, Copy, PartialEq, Eq)]
 pub enum Phase {
     /// The greeting was sent, and no HELLO was accepted.
     Greeted,
@@ -13,7 +13,7 @@ pub enum Phase {
 }
 
 /// What one line of the client gives.
-#[derive(Debug, Drop)]
+#[derive(Drop)]
 pub enum Item {
     /// A reply of its own.
     Own(Reply),

@@ -4,9 +4,10 @@ ghost use Rattle.fk_model.specs.Spellings.{HasSpelling};
 use crate::spelling::has_spelling;
 use crate::{Place, Row};
 use fk_job::Failure;
+use fk_json::ListWithRoom;
 
 /// One change to the kept state. A ticket names a row for good.
-#[derive(Debug, Drop)]
+#[derive(Drop)]
 pub enum Move {
     /// A new row.
     Add {
@@ -34,6 +35,9 @@ pub enum Move {
         failures: u64,
     },
 }
+
+/// A list of moves, and room for more.
+pub type Moves = ListWithRoom<Move>;
 
 impl Move {
     /// Whether a file can hold it: each number, text and list is within its bound. A move for which

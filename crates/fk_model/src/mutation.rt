@@ -1,7 +1,7 @@
 use fk_json::{Text, Texts};
 
 /// What a MUTATE does to the rows that match.
-#[derive(Clone, Copy, Debug, PartialEq, Eq)]
+#[derive(Clone, Copy, PartialEq, Eq)]
 pub enum Cmd {
     /// They are dead from now on. Those that are dead already stay as they are.
     Kill,
@@ -14,7 +14,7 @@ pub enum Cmd {
 }
 
 /// The set of rows that a MUTATE is about.
-#[derive(Clone, Copy, Debug, PartialEq, Eq)]
+#[derive(Clone, Copy, PartialEq, Eq)]
 pub enum Target {
     /// Those that are scheduled.
     Scheduled,
@@ -25,7 +25,7 @@ pub enum Target {
 }
 
 /// Which rows of the target match: those that meet each condition that is there.
-#[derive(Debug, Drop)]
+#[derive(Drop)]
 pub struct Filter {
     /// The job's type.
     pub jobtype: Option<Text>,

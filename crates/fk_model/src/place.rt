@@ -5,7 +5,7 @@ use fk_json::Text;
 
 /// Where a row stands: in exactly one of five sets. Moments are in milliseconds since
 /// 1970-01-01T00:00:00Z.
-#[derive(Debug, Drop)]
+#[derive(Drop)]
 pub enum Place {
     /// It waits in its job's queue. The row of the least rank is fetched first.
     Queued { rank: u64 },

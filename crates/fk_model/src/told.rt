@@ -1,5 +1,5 @@
 /// What a turn tells of itself.
-#[derive(Clone, Copy, Debug)]
+#[derive(Clone, Copy)]
 pub struct Told {
     /// The moment of the turn, in milliseconds since 1970-01-01T00:00:00Z.
     pub moment: u64,
@@ -14,7 +14,7 @@ pub struct Told {
 }
 
 /// How a turn's compaction of the files went.
-#[derive(Clone, Copy, Debug, PartialEq, Eq)]
+#[derive(Clone, Copy, PartialEq, Eq)]
 pub enum Compaction {
     /// None was due.
     NotDue,

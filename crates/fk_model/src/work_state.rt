@@ -1,5 +1,5 @@
 /// What a worker is told to do, in the order in which the states rise.
-#[derive(Clone, Copy, Debug, PartialEq, Eq)]
+#[derive(Clone, Copy, PartialEq, Eq)]
 pub enum WorkState {
     /// It fetches jobs.
     Running,

@@ -15,7 +15,7 @@ use std::marker::Model;
 
 /// Rows under their tickets, in order of ticket, and the number of those that may be put without
 /// taking memory.
-#[derive(Debug, Drop)]
+#[derive(Drop)]
 pub struct Rows {
     // A ticket, and the slot of its row.
     entries: VecDeque<(u64, usize)>,

@@ -1,6 +1,0 @@
--- A list of pairs of numbers, and room for more.
-use Rattle.std.specs.Prelude.{ℕ, List}
-
-pub record Room : Type 0 where
-  pub items : List (ℕ × ℕ)
-  pub spare : ℕ
