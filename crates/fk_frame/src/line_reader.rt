@@ -11,6 +11,9 @@ use std::marker::Model;
 /// The most bytes that a line may have before its LF, with the CR.
 pub const LINE_MAX: usize = 4_194_304;
 
+/// The bytes whose memory is kept for the lines to come.
+const ROOM_KEPT: usize = 65_536;
+
 /// What a reader of lines has next.
 #[derive(Drop)]
 pub enum Line {
@@ -25,7 +28,8 @@ pub enum Line {
 /// Cuts a stream that comes in any pieces into its lines.
 ///
 /// Bytes in front of `from` were given out, and those from there to `scanned` hold no LF, so no
-/// byte is looked at twice. What was given out is cut off when at least half of the buffer is.
+/// byte is looked at twice. What was given out is cut off when at least half of the buffer is, and
+/// what a long line took beyond `ROOM_KEPT` bytes is given back.
 #[derive(Drop)]
 pub struct LineReader {
     buffer: Vec<u8>,
@@ -63,7 +67,6 @@ impl LineReader {
         ensures err { OnErr result (self.new ≡ self.old) }
         ensures wanted { OnErr result (0 < length piece.now) }
     {
-        self.give_up_front();
         self.buffer.extend_from_slice(piece)
     }
 
@@ -82,6 +85,7 @@ impl LineReader {
         }
         if end == self.buffer.len() {
             self.scanned = end;
+            self.give_up_front();
             return Ok(Line::Need);
         }
         let text = Text::copy(*self.buffer.allocator(), line_before(line))?;
@@ -95,8 +99,9 @@ impl LineReader {
     fn give_up_front(&mut self)
         ensures { self.new ≡ self.old }
     {
-        if self.from >= self.buffer.len() - self.from {
+        if self.from > 0 && self.from >= self.buffer.len() - self.from {
             self.buffer.drain(..self.from);
+            self.buffer.shrink_to(ROOM_KEPT);
             self.scanned -= self.from;
             self.from = 0;
         }

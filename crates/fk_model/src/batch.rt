@@ -33,4 +33,11 @@ impl Batch {
     {
         &self.jobs
     }
+
+    /// The jobs themselves, in order.
+    pub fn into_jobs(self) -> Jobs
+        ensures { result.items ≡ self }
+    {
+        self.jobs
+    }
 }

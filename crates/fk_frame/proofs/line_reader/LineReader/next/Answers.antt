@@ -22,7 +22,7 @@ returns-then-end-len-clause-ok c =
     let place = rw c.deref.ensures.value at c.line_end-end.ensures.place in
     let short = rw c.deref-2.ensures.value at (sym c.is_too_long.ensures ∙ c.if-is_too_long.false) in
     let all : c.line_end-end.result ≡ length c.self.inside.buffer.items = cc in
-    rw (← c.self.view_is) (no_line _ _ _ _ c.self.invariant place all short)
+    rw (← c.self.view_is, c.give_up_front.ensures) (no_line _ _ _ _ c.self.invariant place all short)
 
 pub returns-in_err-text-clause-wanted : goal.returns-in_err-text-clause-wanted
 returns-in_err-text-clause-wanted c =
