@@ -10,13 +10,13 @@ use crate::named::sent_value;
 use fk_json::{Member, Text};
 use std::alloc::{AllocError, Global};
 
-// The members that count and are handed on, with commas between them.
+// The members that count and are handed on, with commas between them: no more bytes than the text.
 pub(crate) fn body_of(alloc: Global, text: &[u8], members: &[Member]) -> Result<Text, AllocError>
     requires { ArePlaced text.now members.now }
     ensures { IfOk result (λ body. body ≡ body_of text.now members.now) }
 {
     let flags = counting_flags(alloc, members)?;
-    let mut body = Text::fixed(alloc, b"");
+    let mut body = Text::with_room(alloc, text.len())?;
     let mut at = 0;
     'members: while at < members.len() {
         push_counting(&mut body, text, &members[at], flags[at])?;

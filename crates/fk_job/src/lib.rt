@@ -14,7 +14,7 @@ mod stamp;
 mod values;
 mod writing;
 
-pub use failure::Failure;
+pub use failure::{Failure, FailureParts};
 pub use fault::JobFault;
 pub use job::{Job, Jobs};
 pub use named::string_of;

@@ -5,10 +5,16 @@ ghost use Rattle.fk_json.specs.String.{spelling};
 ghost use Rattle.fk_time.specs.Moments.{greatest, moment_text};
 ghost use Rattle.fk_job.specs.RowText.{HasFailureMoments, HasMoments, IsPlainName, failure_text, further, further_created, further_failure, further_moment, further_strings, row_text, written_member};
 
-use crate::{Failure, Job, Stamp};
+use crate::{Failure, FailureParts, Job, Stamp};
 use fk_json::{Text, Texts, push_string};
 use fk_time::write_moment;
 use std::alloc::{AllocError, Global};
+
+/// The bytes of a job's text beside those that differ from job to job, with two moments.
+const ROW_ROOM: usize = 94;
+
+/// The bytes of a failure in it beside its texts, with a count of 20 digits and two moments.
+const FAILURE_ROOM: usize = 164;
 
 /// The text that a worker is given for a job: what the producer sent, with what the server knows of
 /// it.
@@ -17,14 +23,43 @@ pub fn write_job(alloc: Global, job: &Job, stamp: &Stamp) -> Result<Text, AllocE
     requires { HasMoments stamp.now }
     ensures { IfOk result (λ text. text ≡ row_text job.now stamp.now) }
 {
-    let mut out = Text::copy(alloc, b"{")?;
-    out.push_bytes(job.body.bytes())?;
+    let mut out = Text::with_room(alloc, row_room(job, stamp))?;
+    push_body(&mut out, job)?;
     push_text(&mut out, b"queue", &job.queue)?;
     push_created(alloc, &mut out, job, stamp)?;
     push_optional_moment(alloc, &mut out, b"enqueued_at", stamp.enqueued)?;
     push_failure(alloc, &mut out, &stamp.failure)?;
     out.push_bytes(b"}")?;
     Ok(out)
+}
+
+/// Room for the text of a job: no less than it has where no string in it needs an escape.
+fn row_room(job: &Job, stamp: &Stamp) -> usize {
+    let texts = job.body.len().saturating_add(job.queue.len());
+    let failed = match &stamp.failure {
+        None => 0,
+        Some(failure) => failure_room(failure.parts()),
+    };
+    ROW_ROOM.saturating_add(texts).saturating_add(failed)
+}
+
+/// The same of a failure.
+fn failure_room(failure: &FailureParts) -> usize {
+    let mut room = FAILURE_ROOM
+        .saturating_add(failure.errtype.len())
+        .saturating_add(failure.message.len());
+    for line in failure.backtrace.as_slice() {
+        room = room.saturating_add(line.len()).saturating_add(3);
+    }
+    room
+}
+
+/// Opens the text with what is handed on.
+fn push_body(out: &mut Text, job: &Job) -> Result<(), AllocError>
+    ensures { OnOk result (out.new ≡ out.old ++ (codes "{" ++ job.now.body)) }
+{
+    out.push_bytes(b"{")?;
+    out.push_bytes(job.body.bytes())
 }
 
 /// Adds a comma, a name and a colon.
@@ -94,12 +129,12 @@ fn push_failure(alloc: Global, out: &mut Text, failure: &Option<Failure>) -> Res
 {
     match failure {
         None => Ok(()),
-        Some(failure) => push_failed(alloc, out, failure),
+        Some(failure) => push_failed(alloc, out, failure.parts()),
     }
 }
 
 /// Adds a member with a failure as an object.
-fn push_failed(alloc: Global, out: &mut Text, failure: &Failure) -> Result<(), AllocError>
+fn push_failed(alloc: Global, out: &mut Text, failure: &FailureParts) -> Result<(), AllocError>
     requires { HasFailureMoments failure.now }
     ensures { OnOk result
         (out.new ≡ out.old ++ further (codes "failure") (failure_text failure.now)) }

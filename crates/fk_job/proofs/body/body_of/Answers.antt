@@ -5,7 +5,7 @@ use Rattle.fk_job.proofs.Joined.{as_many, none_written, one_written}
 use Rattle.fk_job.proofs.body.body_of.Goals as goal
 
 pub members-init : goal.members-init
-members-init c = none_written c.args.text.now c.args.members.now _ c.fixed-body.ensures
+members-init c = none_written c.args.text.now c.args.members.now _ c.in_ok-body.ensures
 
 pub index-requires : goal.index-requires
 index-requires c = omega (arith, ap length c.in_ok-flags.ensures, as_many c.args.members.now, c.in_ok-flags.flags.ok)
