@@ -6,7 +6,7 @@ ghost use Rattle.fk_job.specs.Spellings.{HasJobSpelling, IsMoment, IsQueueName, 
 ghost use Rattle.fk_model.specs.Spellings.{AreTexts, HasFailureSpelling, HasPlaceSpelling, HasRestSpelling, HasRowSpelling, HasSpelling};
 
 use crate::{Move, Place, Row};
-use fk_job::{Failure, Job};
+use fk_job::{Failure, FailureParts, Job};
 use fk_json::{Text, Texts};
 use fk_time::GREATEST;
 
@@ -83,11 +83,11 @@ fn is_none_or_spelled(failure: &Option<Failure>) -> bool
 {
     match failure {
         None => true,
-        Some(failure) => has_failure_spelling(failure),
+        Some(failure) => has_failure_spelling(failure.parts()),
     }
 }
 
-fn has_failure_spelling(failure: &Failure) -> bool
+fn has_failure_spelling(failure: &FailureParts) -> bool
     ensures { IsTrue result ↔ HasFailureSpelling failure.now }
 {
     let _count = failure.count;

@@ -6,7 +6,7 @@ use crate::answer::Answer;
 use crate::decoder::decoded;
 use crate::fault::Fault;
 use crate::words::{first_word, moment_in, number_in, optional_moment_in, texts_in};
-use fk_job::{Failure, Job, JobFault, Stamp, read_job, string_of, write_job};
+use fk_job::{Failure, FailureParts, Job, JobFault, Stamp, read_job, string_of, write_job};
 use fk_json::{Text, Texts, scan_object};
 use std::alloc::Global;
 
@@ -142,14 +142,15 @@ fn failure_of(alloc: Global, counted: Counted, words: &[Vec<u8>]) -> Result<Fail
     let [errtype, message, lines @ ..] = words else {
         return Err(Fault::BadLine);
     };
-    Ok(Failure {
+    let parts = FailureParts {
         count: counted.count,
         failed: counted.failed,
         next: counted.next,
         errtype: Text::copy(alloc, errtype)?,
         message: Text::copy(alloc, message)?,
         backtrace: texts_of(alloc, lines)?,
-    })
+    };
+    Ok(Failure::new(alloc, parts)?)
 }
 
 /// A list of these texts.
