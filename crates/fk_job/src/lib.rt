@@ -20,5 +20,5 @@ pub use job::{Job, Jobs};
 pub use named::string_of;
 pub use reading::read_job;
 pub use stamp::Stamp;
-pub use values::DEFAULT_QUEUE;
+pub use values::{DEFAULT_QUEUE, are_queue_bytes};
 pub use writing::write_job;

@@ -42,14 +42,15 @@ pub(crate) fn queue_in(alloc: Global, value: &[u8]) -> Result<Text, JobFault>
     if name.is_empty() {
         return Ok(Text::fixed(alloc, DEFAULT_QUEUE));
     }
-    if is_queue_name(name.bytes()) {
+    if are_queue_bytes(name.bytes()) {
         Ok(name)
     } else {
         Err(JobFault::BadQueue)
     }
 }
 
-fn is_queue_name(name: &[u8]) -> bool
+/// Whether each byte may stand in a queue's name.
+pub fn are_queue_bytes(name: &[u8]) -> bool
     ensures { IsTrue result ↔ AllPass is_queue_byte name.now }
 {
     name.iter().all(|byte| is_queue_byte(*byte))

@@ -129,7 +129,7 @@ impl<T: Drop> ListWithRoom<T> {
     }
 }
 
-impl Pairs {
+impl ListWithRoom<(u64, u64)> {
     /// Adds all of these pairs at the end, in order, or none of them. It can't fail where there is
     /// room for them, and what is free beyond them stays free.
     pub fn extend(&mut self, others: &[(u64, u64)]) -> Result<(), AllocError>

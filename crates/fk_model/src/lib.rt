@@ -6,7 +6,6 @@ mod answer;
 mod ask;
 mod batch;
 mod entry;
-mod in_range;
 mod item;
 pub mod laws;
 mod move_;

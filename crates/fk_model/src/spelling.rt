@@ -1,12 +1,12 @@
 // The bounds of what a file can hold, tested part by part.
 ghost use Rattle.std.specs.Prelude.{◌≡◌, ◌≤◌, ◌<◌, ◌↔◌, pos, neg_ℤ, ◌≤ℤ◌, FitsSigned, IfSome, IsTrue};
 ghost use Rattle.std.specs.Int.{w64};
-ghost use Rattle.fk_job.specs.Fields.{is_queue_byte, least_reserve, most_reserve};
+ghost use Rattle.fk_job.specs.Fields.{least_reserve, most_reserve};
 ghost use Rattle.fk_job.specs.Spellings.{HasJobSpelling, IsMoment, IsQueueName, IsText};
 ghost use Rattle.fk_model.specs.Spellings.{AreTexts, HasFailureSpelling, HasPlaceSpelling, HasRestSpelling, HasRowSpelling, HasSpelling};
 
 use crate::{Move, Place, Row};
-use fk_job::{Failure, FailureParts, Job};
+use fk_job::{Failure, FailureParts, Job, are_queue_bytes};
 use fk_json::{Text, Texts};
 use fk_time::GREATEST;
 
@@ -123,13 +123,7 @@ fn has_numbers_spelled(job: &Job) -> bool
 fn is_queue_name(name: &Text) -> bool
     ensures { IsTrue result ↔ IsQueueName name.now }
 {
-    !name.is_empty() && name.bytes().iter().all(|byte| is_queue_byte(*byte))
-}
-
-fn is_queue_byte(byte: u8) -> bool
-    ensures { result ≡ is_queue_byte byte }
-{
-    byte.is_ascii_alphanumeric() || byte == b'.' || byte == b'_' || byte == b'-'
+    !name.is_empty() && are_queue_bytes(name.bytes())
 }
 
 /// Whether each text has fewer than 2^32 bytes, and there are fewer than 2^32.

@@ -8,17 +8,17 @@ returns-in_default-clause-fault c =
     c.in_ok-name.was c.in_default.is in
     inr (refl, λ queue (name, is, named). none name is)
 
-pub returns-then-is_queue_name-clause-ok : goal.returns-then-is_queue_name-clause-ok
-returns-then-is_queue_name-clause-ok c =
+pub returns-then-are_queue_bytes-clause-ok : goal.returns-then-are_queue_bytes-clause-ok
+returns-then-are_queue_bytes-clause-ok c =
     good_name c.args.value.now c.in-Some.name (rw c.in-Some.is at c.in_ok-name.ensures.some)
     (some_text c.is_empty.ensures c.if-is_empty.false)
-    (rw c.bytes.ensures at (c.is_queue_name.ensures.0 c.if-is_queue_name.true))
+    (rw c.bytes.ensures at (c.are_queue_bytes.ensures.0 c.if-are_queue_bytes.true))
 
-pub returns-else-is_queue_name-clause-fault : goal.returns-else-is_queue_name-clause-fault
-returns-else-is_queue_name-clause-fault c =
+pub returns-else-are_queue_bytes-clause-fault : goal.returns-else-are_queue_bytes-clause-fault
+returns-else-are_queue_bytes-clause-fault c =
     inr (
       refl,
       λ queue. bad_name c.args.value.now c.in-Some.name queue
           (rw c.in-Some.is at c.in_ok-name.ensures.some) (some_text c.is_empty.ensures c.if-is_empty.false)
-          (rw c.bytes.ensures at (only_true c.is_queue_name.ensures c.if-is_queue_name.false)),
+          (rw c.bytes.ensures at (only_true c.are_queue_bytes.ensures c.if-are_queue_bytes.false)),
     )
