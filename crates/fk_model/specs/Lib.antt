@@ -8,6 +8,7 @@ pub mod State
 pub mod Orders
 pub mod Spellings
 pub mod Range
+pub mod Fate
 pub mod Between
 pub mod Changes
 pub mod Requests

@@ -1,0 +1,6 @@
+//! What becomes of a job that failed.
+#![tactic(auto)]
+
+mod schedule;
+
+pub use schedule::failed;
