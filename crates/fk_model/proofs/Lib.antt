@@ -28,6 +28,14 @@ pub mod Pushes
 pub mod Waiting
 pub mod Effects
 pub mod Requested
+pub mod Outcomes
+pub mod Settling
+pub mod Chosen
+pub mod Fates
+pub mod Falling
+pub mod BroughtUp
+pub mod UpToDate
+pub mod FailMoves
 pub mod Turning
 pub mod BetweenTurns
 pub mod Onward

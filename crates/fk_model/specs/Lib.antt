@@ -11,8 +11,12 @@ pub mod Range
 pub mod Fate
 pub mod Between
 pub mod Changes
+pub mod Failing
+pub mod Due
+pub mod Bringing
 pub mod Requests
 pub mod Said
+pub mod Fails
 pub mod Turns
 pub mod Answers
 pub mod Out

@@ -7,17 +7,22 @@ ghost use Rattle.fk_frame.specs.Lines.{longest_line};
 ghost use Rattle.fk_frame.specs.declared.line_reader.Line.TheVariants.{Whole};
 ghost use Rattle.fk_job.specs.Spellings.{AreBytes};
 ghost use Rattle.fk_model.specs.declared.ask.Ask.{Ask as AnAsk};
+ghost use Rattle.fk_model.specs.declared.ask.Ask.TheVariants.{Fail};
 ghost use Rattle.fk_model.specs.declared.entry.Entry.{Entry as AnEntry};
 ghost use Rattle.fk_model.specs.declared.item.Item.{Item as AnItem};
 ghost use Rattle.fk_model.specs.declared.item.Item.TheVariants.{Asks};
 ghost use Rattle.fk_model.specs.declared.item.Phase.{Phase as APhase};
 ghost use Rattle.fk_model.specs.Limits.{greatest_next};
-ghost use Rattle.fk_model.specs.State.{State, empty, without_workers};
+ghost use Rattle.fk_model.specs.State.{KeptState, State, empty, without_workers};
 ghost use Rattle.fk_model.specs.Orders.{comes_before, in_order};
 ghost use Rattle.fk_model.specs.Range.{HasJsonTexts, IsInRange};
-ghost use Rattle.fk_model.specs.Between.{IsBetweenTurns};
+ghost use Rattle.fk_model.specs.Between.{IsBetweenTurns, IsWellKept};
 ghost use Rattle.fk_model.specs.Changes.{after_moves, EndsWithTotals, Lead};
-ghost use Rattle.fk_model.specs.Turns.{moves_of_turn, turn};
+ghost use Rattle.fk_model.specs.Failing.{Reason};
+ghost use Rattle.fk_model.specs.Due.{IsUpToDate};
+ghost use Rattle.fk_model.specs.Bringing.{brought_up, moves_up};
+ghost use Rattle.fk_model.specs.Fails.{fail_effect, moves_of_fail};
+ghost use Rattle.fk_model.specs.Turns.{closed, moves_of_turn, turn};
 ghost use Rattle.fk_model.specs.Answers.{IsToldApart};
 ghost use Rattle.fk_model.specs.History.{IsLegalFrom, IsOverLimit, faults_after, state_after};
 ghost use Rattle.fk_model.specs.Out.{asks_of, own_replies};
@@ -60,6 +65,55 @@ pub fn pairs_are_sorted()
         → AllPairs (λ one other. comes_before other one ≡ false) (in_order pairs) }
     ensures same { (test : ℕ × ℕ → Bool) (pairs : List (ℕ × ℕ))
         → count_by test (in_order pairs) ≡ count_by test pairs }
+{}
+
+// ---- what falls due by time alone
+
+/// Nothing is due any more in a kept state that is brought up to a moment.
+pub fn nothing_is_due_in_what_is_up_to_date()
+    ensures { (kept : KeptState) (moment word : ℕ) → IsWellKept kept → moment < greatest
+        → IsUpToDate moment (brought_up kept moment word) }
+{}
+
+/// Bringing a kept state up to a moment keeps what holds of it, where its next number stays within the
+/// greatest.
+pub fn bringing_up_to_date_keeps_what_holds_between_turns()
+    ensures { (kept : KeptState) (moment word : ℕ) → IsWellKept kept → moment < greatest
+        → (brought_up kept moment word).next ≤ greatest_next
+        → IsWellKept (brought_up kept moment word) }
+{}
+
+/// The moves by which a kept state is brought up to a moment make of it the one that is up to date, the
+/// numbers last, and there is none exactly where it stays. Where its next number stays within the
+/// greatest, each of them fits.
+pub fn the_moves_lead_to_what_is_up_to_date()
+    ensures come { (kept : KeptState) (moment word : ℕ) → IsWellKept kept
+        → brought_up kept moment word
+        ≡ after_moves kept (closed (moves_up kept moment word) (brought_up kept moment word)) }
+    ensures stays { (kept : KeptState) (moment word : ℕ) → IsWellKept kept
+        → ((moves_up kept moment word ≡ []) ↔ (brought_up kept moment word ≡ kept)) }
+    ensures lead { (kept : KeptState) (moment word : ℕ) → IsWellKept kept → moment < greatest
+        → (brought_up kept moment word).next ≤ greatest_next
+        → Lead kept (closed (moves_up kept moment word) (brought_up kept moment word))
+        (brought_up kept moment word) }
+{}
+
+/// The moves of a FAIL make of the kept state the one that it leaves, and there is none exactly where that
+/// stays. Where its words can be written, each of them fits.
+pub fn the_moves_of_a_fail_lead_to_its_state()
+    ensures come { (s : State) (jid : List ℕ) (reason : Reason) (moment word : ℕ) → IsBetweenTurns s
+        → (fail_effect s jid reason moment word).state.kept
+        ≡ after_moves s.kept (closed (moves_of_fail s.kept jid reason moment word)
+        (fail_effect s jid reason moment word).state.kept) }
+    ensures stays { (s : State) (jid : List ℕ) (reason : Reason) (moment word : ℕ) → IsBetweenTurns s
+        → ((moves_of_fail s.kept jid reason moment word ≡ [])
+        ↔ ((fail_effect s jid reason moment word).state.kept ≡ s.kept)) }
+    ensures lead { (s : State) (jid : List ℕ) (reason : Reason) (moment word : ℕ) → IsBetweenTurns s
+        → IsInRange (Fail jid reason.errtype reason.message reason.backtrace) → moment < greatest
+        → s.kept.next ≤ greatest_next
+        → Lead s.kept (closed (moves_of_fail s.kept jid reason moment word)
+        (fail_effect s jid reason moment word).state.kept)
+        (fail_effect s jid reason moment word).state.kept }
 {}
 
 // ---- a turn
