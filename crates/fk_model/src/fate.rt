@@ -1,5 +1,5 @@
 /// What becomes of a job that failed. Moments are in milliseconds since 1970-01-01T00:00:00Z.
-#[derive(Clone, Copy, Debug, PartialEq, Eq)]
+#[derive(Clone, Copy, PartialEq, Eq)]
 pub enum Fate {
     /// It is forgotten.
     Drop,
