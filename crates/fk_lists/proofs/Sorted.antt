@@ -108,7 +108,7 @@ counted_holds P one [] all some = absurd (omega (arith, some))
 counted_holds P one (pair ∷ pairs) all some =
     here_or_later P one pair pairs (is_pair one pair) refl all.0 some (counted_holds P one pairs all.1)
 
-abbrev HaveSame : List (ℕ × ℕ) → List (ℕ × ℕ) → Type 0
+abbrev pub HaveSame : List (ℕ × ℕ) → List (ℕ × ℕ) → Type 0
 HaveSame ones others = (test : ℕ × ℕ → Bool) → count_by test ones ≡ count_by test others
 
 counts_itself : (pair : ℕ × ℕ) (pairs : List (ℕ × ℕ)) → 0 < count_by (is_pair pair) (pair ∷ pairs)
@@ -147,6 +147,13 @@ ordered_alike (pair ∷ pairs) (first ∷ rest) one other same =
     (first_ahead first pair rest pairs other.0 (λ test. sym (same test))) in
     let left : pairs ≡ rest = ordered_alike pairs rest one.1 other.1 (rest_same pair first pairs rest equal same) in
     cc (equal, left)
+
+-- of the same pairs there is one order
+pub in_order_alike : (ones others : List (ℕ × ℕ)) → HaveSame ones others → in_order ones ≡ in_order others
+in_order_alike ones others same =
+    ordered_alike (in_order ones) (in_order others) (from_all_pairs (in_order ones) (are_in_order ones))
+    (from_all_pairs (in_order others) (are_in_order others))
+    (λ test. are_the_same test ones ∙ same test ∙ sym (are_the_same test others))
 
 -- what a sort of the library leaves
 pub sorted_is : (pairs sorted : List (ℕ × ℕ)) → IsPermutation pairs sorted

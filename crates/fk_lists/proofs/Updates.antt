@@ -76,6 +76,11 @@ module _ (name : List ℕ) (put : Option PairList) (before after : Entries) (put
   other_marks other differ =
       marked after other ∙ ap mark_on (others_held other differ) ∙ sym (marked before other)
 
+  pub other_rooms : (other : List ℕ) → other ≢ name
+      → spare_at (spares_of after) other ≡ spare_at (spares_of before) other
+  other_rooms other differ =
+      spared after other ∙ ap room_on (others_held other differ) ∙ sym (spared before other)
+
   -- where a name's list takes no room away, no name has less
   pub roomier : spare_at (spares_of before) name ≤ room_on put
       → (other : List ℕ) → spare_at (spares_of before) other ≤ spare_at (spares_of after) other

@@ -1,8 +1,8 @@
-ghost use Rattle.std.specs.Prelude.{◌≡◌, ◌+◌, ◌<◌, ◌≤◌, ℕ, List, [], length, map, slice_get, IfErr, IfOk, IsOk, OnOk};
+ghost use Rattle.std.specs.Prelude.{◌≡◌, ◌≢◌, ◌+◌, ◌<◌, ◌≤◌, ℕ, List, [], length, map, slice_get, IfErr, IfOk, IsOk, OnErr, OnOk};
 ghost use Rattle.std.specs.List.{insert, remove};
 ghost use Rattle.std.specs.List.Sorted.{IsStrictlyIncreasing};
 ghost use Rattle.fk_model.specs.Orders.{number_in};
-ghost use Rattle.fk_lists.specs.Room.{list_at, no_lists, mark_at, spare_at, IsLean, OthersStay};
+ghost use Rattle.fk_lists.specs.Room.{list_at, no_lists, mark_at, spare_at, AreNamed, IsLean, OthersStay};
 ghost use Rattle.fk_lists.specs.Places.{IsGap, IsPlace};
 
 use crate::idle::forget_idle;
@@ -52,8 +52,13 @@ impl Lists {
         requires empty { list_at self.old.items name.now ≡ [] }
         requires bare { spare_at self.old.spares name.now ≡ 0 }
         ensures ok { OnOk result (more ≤ spare_at self.new.spares name.now) }
+        ensures err { OnErr result
+            (spare_at self.new.spares name.now ≡ spare_at self.old.spares name.now) }
         ensures kept { (other : List ℕ)
             → spare_at self.old.spares other ≤ spare_at self.new.spares other }
+        ensures bound { spare_at self.new.spares name.now ≤ more }
+        ensures rooms { (other : List ℕ) → other ≢ name.now
+            → spare_at self.new.spares other ≡ spare_at self.old.spares other }
         ensures same { self.new.items ≡ self.old.items }
         ensures marks { (other : List ℕ)
             → mark_at self.new.marks other ≡ mark_at self.old.marks other }
@@ -71,7 +76,7 @@ impl Lists {
     }
 
     /// Puts a pair into the list of a name, at a place counted from 0.
-    #[tactic(auto, using(crate::proofs::Lookups::listed, crate::proofs::Lookups::spared))]
+    #[tactic(auto, using(crate::proofs::Lookups::listed, crate::proofs::Lookups::spared, crate::proofs::NamesInOrder::are_named))]
     pub fn insert(&mut self, name: &Text, at: usize, pair: (u64, u64))
         requires room { 0 < spare_at self.old.spares name.now }
         requires within { at ≤ length (list_at self.old.items name.now) }
@@ -80,6 +85,7 @@ impl Lists {
         ensures others { OthersStay name.now self.old self.new }
         ensures spare { spare_at self.new.spares name.now + 1
             ≡ spare_at self.old.spares name.now }
+        ensures named { AreNamed self.new.items }
     {
         let Some(list) = self.held.get_mut(name) else {
             return;
@@ -89,7 +95,7 @@ impl Lists {
 
     /// Takes the pair at a place of a name's list out, if there is one. The rooms stay. A name that
     /// has neither a pair nor room is forgotten.
-    #[tactic(auto, using(crate::proofs::Lookups::listed, crate::proofs::Lookups::spared))]
+    #[tactic(auto, using(crate::proofs::Lookups::listed, crate::proofs::Lookups::spared, crate::proofs::NamesInOrder::are_named))]
     pub fn remove(&mut self, name: &Text, at: usize) -> Option<(u64, u64)>
         ensures value { result ≡ slice_get (list_at self.old.items name.now) at }
         ensures here { list_at self.new.items name.now
@@ -97,6 +103,7 @@ impl Lists {
         ensures others { OthersStay name.now self.old self.new }
         ensures kept { spare_at self.new.spares name.now ≡ spare_at self.old.spares name.now }
         ensures lean { IsLean self.new }
+        ensures named { AreNamed self.new.items }
     {
         let Some(list) = self.held.get_mut(name) else {
             return None;
@@ -124,6 +131,28 @@ impl Lists {
     {
         match self.held.get(name) {
             Some(list) => list.len(),
+            None => 0,
+        }
+    }
+
+    /// How many pairs of a name may be put without taking memory.
+    #[tactic(auto, using(crate::proofs::Lookups::spared))]
+    pub fn spare(&self, name: &Text) -> usize
+        ensures { result ≡ spare_at self.now.spares name.now }
+    {
+        match self.held.get(name) {
+            Some(list) => list.spare(),
+            None => 0,
+        }
+    }
+
+    /// How much of a name's room is marked.
+    #[tactic(auto, using(crate::proofs::Lookups::marked))]
+    pub fn marked(&self, name: &Text) -> usize
+        ensures { result ≡ mark_at self.now.marks name.now }
+    {
+        match self.held.get(name) {
+            Some(list) => list.marked(),
             None => 0,
         }
     }

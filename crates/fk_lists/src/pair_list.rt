@@ -1,4 +1,4 @@
-ghost use Rattle.std.specs.Prelude.{◌≡◌, ◌++◌, ◌+◌, ◌<◌, ◌≤◌, ◌↔◌, [], filter, length, map, nat_lt, not, slice_get, IfErr, IfOk, IsOk, IsTrue, OnErr, OnOk};
+ghost use Rattle.std.specs.Prelude.{◌≡◌, ◌++◌, ◌+◌, ◌<◌, ◌≤◌, ◌↔◌, [], filter, length, map, max, nat_lt, not, slice_get, IfErr, IfOk, IsOk, IsTrue, OnErr, OnOk};
 ghost use Rattle.std.specs.List.{insert, remove};
 ghost use Rattle.std.specs.List.Sorted.{IsStrictlyIncreasing};
 ghost use Rattle.fk_model.specs.Orders.{number_in};
@@ -54,7 +54,9 @@ impl PairList {
     /// Makes room for more pairs.
     pub(crate) fn reserve(&mut self, more: usize) -> Result<(), AllocError>
         ensures ok { OnOk result (more ≤ self.new.spare) }
+        ensures err { OnErr result (self.new.spare ≡ self.old.spare) }
         ensures kept { self.old.spare ≤ self.new.spare }
+        ensures bound { self.new.spare ≤ max self.old.spare more }
         ensures same { self.new.items ≡ self.old.items }
         ensures mark { self.new.mark ≡ self.old.mark }
         ensures ready { more ≤ self.old.spare → IsOk result }
@@ -115,12 +117,20 @@ impl PairList {
         self.spare
     }
 
+    /// How much of that room is marked.
+    pub(crate) fn marked(&self) -> usize
+        ensures { result ≡ self.now.mark }
+    {
+        self.mark
+    }
+
     /// Marks room for one pair more, beside what is marked.
     pub(crate) fn mark(&mut self) -> Result<(), AllocError>
         ensures ok { OnOk result ((self.new.mark ≡ self.old.mark + 1)
             × (self.new.mark ≤ self.new.spare)) }
         ensures err { OnErr result (self.new.mark ≡ self.old.mark) }
         ensures kept { self.old.spare ≤ self.new.spare }
+        ensures bound { self.new.spare ≤ max self.old.spare (self.old.mark + 1) }
         ensures same { self.new.items ≡ self.old.items }
         ensures ready { self.old.mark < self.old.spare → IsOk result }
     {

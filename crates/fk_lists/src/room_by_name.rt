@@ -1,4 +1,4 @@
-ghost use Rattle.std.specs.Prelude.{◌≡◌, ◌≢◌, ◌<◌, ◌≤◌, ◌+◌, ℕ, List, [], IsOk, OnErr, OnOk};
+ghost use Rattle.std.specs.Prelude.{◌≡◌, ◌≢◌, ◌<◌, ◌≤◌, ◌+◌, max, ℕ, List, [], IsOk, OnErr, OnOk};
 ghost use Rattle.fk_lists.specs.Room.{mark_at, spare_at, IsLean, Room};
 
 use fk_json::Text;
@@ -10,19 +10,26 @@ pub trait RoomByName {
     /// The pairs, the room of each name, and how much of it is marked.
     ghost room: { Self → Room };
 
-    /// Makes room for more pairs of a name. The pairs stay, and so does the room that was there.
+    /// Makes room for more pairs of a name. The pairs stay, and so does the room that was there: that
+    /// of the name is raised to what is asked for, and never beyond.
     fn reserve(&mut self, name: &Text, more: usize) -> Result<(), AllocError>
         ensures ok { OnOk result (more ≤ spare_at (room self.new).spares name.now) }
+        ensures err { OnErr result
+            (spare_at (room self.new).spares name.now ≡ spare_at (room self.old).spares name.now) }
         ensures kept { (other : List ℕ)
             → spare_at (room self.old).spares other ≤ spare_at (room self.new).spares other }
+        ensures bound { spare_at (room self.new).spares name.now
+            ≤ max (spare_at (room self.old).spares name.now) more }
+        ensures rooms { (other : List ℕ) → other ≢ name.now
+            → spare_at (room self.new).spares other ≡ spare_at (room self.old).spares other }
         ensures same { (room self.new).items ≡ (room self.old).items }
         ensures marks { (other : List ℕ)
             → mark_at (room self.new).marks other ≡ mark_at (room self.old).marks other }
         ensures ready { more ≤ spare_at (room self.old).spares name.now → IsOk result };
 
     /// Marks room for one pair more of a name, beside what is marked, and makes it where it isn't
-    /// there. The pairs stay, and so does the room that was there. Of the other calls only
-    /// `reserve` says what becomes of marks: they stay.
+    /// there. The pairs stay, and so does the room that was there, which is raised to the marks and
+    /// never beyond. Of the other calls only `reserve` says what becomes of marks: they stay.
     fn mark(&mut self, name: &Text) -> Result<(), AllocError>
         ensures ok { OnOk result
             (mark_at (room self.new).marks name.now ≡ mark_at (room self.old).marks name.now + 1) }
@@ -34,6 +41,10 @@ pub trait RoomByName {
             → mark_at (room self.new).marks other ≡ mark_at (room self.old).marks other }
         ensures kept { (other : List ℕ)
             → spare_at (room self.old).spares other ≤ spare_at (room self.new).spares other }
+        ensures bound { spare_at (room self.new).spares name.now
+            ≤ max (spare_at (room self.old).spares name.now) (mark_at (room self.old).marks name.now + 1) }
+        ensures rooms { (other : List ℕ) → other ≢ name.now
+            → spare_at (room self.new).spares other ≡ spare_at (room self.old).spares other }
         ensures same { (room self.new).items ≡ (room self.old).items }
         ensures ready { mark_at (room self.old).marks name.now < spare_at (room self.old).spares name.now
             → IsOk result };

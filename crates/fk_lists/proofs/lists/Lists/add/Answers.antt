@@ -2,7 +2,7 @@ use Rattle.std.proofs.Common.{◌∙◌, sym, ap, arith}
 use Rattle.std.proofs.lemmas.Bool.Decides.{nat_tests}
 use Rattle.fk_lists.proofs.InUse.{not_held, other_lists, sound_with}
 use Rattle.fk_lists.proofs.Lookups.{listed, mark_on, marked}
-use Rattle.fk_lists.proofs.Updates.{marks_stay, roomier}
+use Rattle.fk_lists.proofs.Updates.{marks_stay, other_rooms, roomier}
 use Rattle.fk_lists.proofs.Unseen.{entered}
 use Rattle.fk_lists.proofs.lists.Lists.add.Goals as goal
 
@@ -34,3 +34,7 @@ returns-in-Ok-clause-same c =
     rw (c.in-Ok.ensures.entries, c.in_ok-copied.ensures, ← c.self.view_is)
     (entered c.args.name.now c.reserve.new.self c.self.inside.held.entries
     (c.in_ok-reserve.ensures.same ∙ c.new-list.ensures.items) empty)
+
+pub returns-in-Ok-clause-rooms : goal.returns-in-Ok-clause-rooms
+returns-in-Ok-clause-rooms c =
+    rw (← c.self.view_is, ← c.in_ok-copied.ensures) (other_rooms _ _ _ _ c.in-Ok.ensures.updates.0)

@@ -1,7 +1,7 @@
 use Rattle.std.proofs.Common.{rules, refl, arith}
 use Rattle.fk_lists.proofs.InUse.{other_lists, sound_with, still_used, used_list}
 use Rattle.fk_lists.proofs.Lookups.{spared}
-use Rattle.fk_lists.proofs.Updates.{other_marks, roomier}
+use Rattle.fk_lists.proofs.Updates.{other_marks, other_rooms, roomier}
 use Rattle.fk_lists.proofs.Unseen.{replaced}
 use Rattle.fk_lists.proofs.marking.ListsRoomByName.mark.Goals as goal
 
@@ -29,3 +29,9 @@ returns-clause-kept c =
     let put = c.get_mut.follows.holds c.mark.new.self in
     let kept = roomier _ _ _ _ (put.3 (search rules)).0 (rw (spared, ← c.in-Some.ensures.value) c.mark.ensures.kept) in
     λ other. grind (arith, c.self.view_is, c.in_ok-reserve.ensures.kept other, kept other)
+
+pub returns-clause-rooms : goal.returns-clause-rooms
+returns-clause-rooms c =
+    let put = c.get_mut.follows.holds c.mark.new.self in
+    let others = other_rooms _ _ _ _ (put.3 (search rules)).0 in
+    λ other differ. rw (others other differ, ← c.in_ok-reserve.ensures.rooms other differ, ← c.self.view_is) refl

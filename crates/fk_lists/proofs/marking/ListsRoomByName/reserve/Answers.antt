@@ -1,7 +1,7 @@
 use Rattle.std.proofs.Common.{rules}
 use Rattle.fk_lists.proofs.Lookups.{marked, spared}
 use Rattle.fk_lists.proofs.InUse.{other_lists, sound_with, still_used, used_list}
-use Rattle.fk_lists.proofs.Updates.{marks_stay, roomier}
+use Rattle.fk_lists.proofs.Updates.{marks_stay, other_rooms, roomier}
 use Rattle.fk_lists.proofs.Unseen.{replaced}
 use Rattle.fk_lists.proofs.marking.ListsRoomByName.reserve.Goals as goal
 
@@ -29,3 +29,8 @@ invariant_of-self c =
     let used = used_list _ c.self.invariant.in_use _ _ c.in-Some.ensures.value in
     sound_with _ _ _ _ (put.3 (search rules)).0 put.4 (other_lists _ _ c.self.invariant.in_use)
     (still_used c.in-Some.list.now c.reserve.new.self c.reserve.ensures.same c.reserve.ensures.kept used)
+
+pub returns-in-Some-clause-rooms : goal.returns-in-Some-clause-rooms
+returns-in-Some-clause-rooms c =
+    let put = c.get_mut.follows.holds c.reserve.new.self in
+    rw (← c.self.view_is) (other_rooms _ _ _ _ (put.3 (search rules)).0)
