@@ -4,28 +4,41 @@ ghost use Rattle.fk_model.specs.Orders.{with_pair};
 ghost use Rattle.fk_lists.specs.Room.{all_pairs, list_at, no_lists, spare_at, AreNamed, IsLean, OthersStay};
 ghost use Rattle.fk_leases.specs.Leases.{first_until, leased_ticket, until_in, run_out, without_lease, AreByTicket, IsAbsent};
 
+use crate::ends::{enter, first_moment, leases_of, leave};
 use fk_json::{Pairs, Text};
-use fk_lists::{Lists, RoomByName};
+use fk_lists::Lists;
+use fk_tree::Tree;
 use std::alloc::{AllocError, Global};
 use std::marker::Model;
 
 /// The leases: under each jid pairs of a ticket and the moment until which its row is a worker's, in
 /// milliseconds since 1970-01-01T00:00:00Z, by ticket; and for each jid the number of leases that may
 /// be put without taking memory.
+///
+/// Beside the lists stands a tree of the ends of all leases. It has each end once: where leases of two
+/// jids share a ticket and a moment, which rows never do, the lists are gone through until all leases
+/// are taken out together.
 #[derive(Drop)]
 pub struct Leases {
-    lists: Lists,
+    pub(crate) alloc: Global,
+    pub(crate) lists: Lists,
+    pub(crate) ends: Tree,
+    // The number of leases that may be put, of all jids.
+    pub(crate) room: usize,
+    // Whether two jids may share an end.
+    pub(crate) shared: bool,
 }
 
 impl Model for Leases {
     ghost use Rattle.fk_lists.specs.Room.{Room};
-    ghost use Rattle.fk_leases.specs.Leases.{AreByTicket};
+    ghost use Rattle.fk_leases.specs.Ends.{IsSound};
 
     ghost Value = { Room };
 
     ghost view = { λ leases. leases.lists };
 
-    ghost invariant = { λ leases. AreByTicket leases.lists.items };
+    ghost invariant = { λ leases.
+        IsSound leases.lists leases.ends leases.room leases.shared };
 }
 
 impl Leases {
@@ -33,8 +46,14 @@ impl Leases {
     pub fn new(alloc: Global) -> Leases
         ensures { result ≡ no_lists }
     {
+        let lists = Lists::new(alloc);
+        let ends = Tree::new(alloc);
         Leases {
-            lists: Lists::new(alloc),
+            alloc,
+            lists,
+            ends,
+            room: 0,
+            shared: false,
         }
     }
 
@@ -49,7 +68,11 @@ impl Leases {
     {
         match self.lists.place_of(jid, ticket) {
             Ok(_) => (),
-            Err(at) => self.lists.insert(jid, at, (ticket, until)),
+            Err(at) => {
+                self.lists.insert(jid, at, (ticket, until));
+                self.room -= 1;
+                self.shared = enter(&mut self.ends, until, ticket, self.shared);
+            }
         }
     }
 
@@ -96,8 +119,9 @@ impl Leases {
         ensures lean { IsTrue result → IsLean self.new }
     {
         match self.lists.get(jid, at) {
-            Some((_, ends)) if ends == until => {
+            Some((ticket, ends)) if ends == until => {
                 let _ = self.lists.remove(jid, at);
+                leave(&mut self.ends, until, ticket);
                 true
             }
             _ => false,
@@ -109,7 +133,10 @@ impl Leases {
         ensures until { result ≡ first_until self.now.items }
         ensures named { AreNamed self.now.items }
     {
-        self.lists.least()
+        if self.shared {
+            return self.lists.least();
+        }
+        first_moment(&self.ends)
     }
 
     /// Adds the ticket and the end of each lease that runs at most until a moment, by ticket, at the
@@ -120,7 +147,12 @@ impl Leases {
         ensures err { OnErr result (out.new.items ≡ out.old.items) }
         ensures named { AreNamed self.now.items }
     {
-        self.lists.up_to(moment, out)
+        if self.shared {
+            return self.lists.up_to(moment, out);
+        }
+        let mut ended = Pairs::new(self.alloc);
+        self.ends.until(moment, &mut ended)?;
+        out.extend(&leases_of(self.alloc, &ended)?)
     }
 
     /// The number of leases, which stands still at the end of its type.
@@ -128,33 +160,17 @@ impl Leases {
         ensures count { result ≡ min (length (all_pairs self.now.items)) (2 ^ 64 - 1) }
         ensures named { AreNamed self.now.items }
     {
-        self.lists.count()
-    }
-}
-
-impl RoomByName for Leases {
-    ghost room = { λ leases. leases };
-
-    fn reserve(&mut self, jid: &Text, more: usize) -> Result<(), AllocError> {
-        self.lists.reserve(jid, more)
-    }
-
-    fn mark(&mut self, jid: &Text) -> Result<(), AllocError> {
-        self.lists.mark(jid)
-    }
-
-    fn unmark(&mut self, jid: &Text) {
-        self.lists.unmark(jid);
-    }
-
-    fn clear(&mut self) {
-        self.lists.clear();
+        if self.shared {
+            return self.lists.count();
+        }
+        self.ends.count()
     }
 }
 
 #[cfg(test)]
 mod tests {
     use super::*;
+    use fk_lists::RoomByName;
     use std::test::Fail;
 
     // No program asks for this list.

@@ -13,11 +13,11 @@ returns-in-Err-clause-here c =
 pub returns-in-Ok-clause-found : goal.returns-in-Ok-clause-found
 returns-in-Ok-clause-found c =
     place_found _ c.args.ticket c.args.until c.in-Ok.at c.take_at.result
-    (rw (← c.self.view_is) (c.self.invariant c.args.jid.now)) (rw (← c.self.view_is) c.in-Ok.ensures.found)
+    (rw (← c.self.view_is) (c.self.invariant.by_ticket c.args.jid.now)) (rw (← c.self.view_is) c.in-Ok.ensures.found)
     c.take_at.ensures.found
 
 pub returns-in-Ok-clause-here : goal.returns-in-Ok-clause-here
 returns-in-Ok-clause-here c =
     place_left _ _ c.args.ticket c.args.until c.in-Ok.at c.take_at.result
-    (rw (← c.self.view_is) (c.self.invariant c.args.jid.now)) (rw (← c.self.view_is) c.in-Ok.ensures.found)
+    (rw (← c.self.view_is) (c.self.invariant.by_ticket c.args.jid.now)) (rw (← c.self.view_is) c.in-Ok.ensures.found)
     c.take_at.ensures.found c.take_at.ensures.taken c.take_at.ensures.left
