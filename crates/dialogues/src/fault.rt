@@ -2,7 +2,7 @@ use std::alloc::{AllocError, AllocFailed};
 use thiserror::Error;
 
 /// Why a line of a script can't be read, or what it says can't be done.
-#[derive(Debug, Drop, Error)]
+#[derive(Clone, Copy, Debug, Error)]
 pub enum ScriptFault {
     #[error("not UTF-8")]
     NoText,
@@ -41,7 +41,7 @@ impl<T: Drop> From<AllocFailed<T>> for ScriptFault {
 }
 
 /// Where a play ended before the end of its script, and why.
-#[derive(Debug, Drop, Error)]
+#[derive(Clone, Copy, Debug, Error)]
 #[error("line {line}: {fault}")]
 pub struct Stop {
     /// The number of the line, counted from 1. A run is made at the line behind it.

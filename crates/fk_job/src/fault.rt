@@ -8,7 +8,7 @@ use thiserror::Error;
 /// `BadAt`, which come only of a text that is one JSON object, the first in this order. Want of
 /// memory may come in the place of any. For `queue`, `reserve_for`, `retry` and `at` null counts as
 /// absent, and so does the empty string for `queue` and `at`.
-#[derive(Debug, Drop, Error)]
+#[derive(Clone, Copy, Debug, Error)]
 pub enum JobFault {
     /// It stops being a JSON object at this byte, counted from 0, or ends here too early.
     #[error("no JSON object at byte {0}")]

@@ -2,7 +2,7 @@ use std::alloc::AllocError;
 use thiserror::Error;
 
 /// Why a text isn't read as JSON.
-#[derive(Debug, Drop, Error)]
+#[derive(Clone, Copy, Debug, Error)]
 pub enum JsonFault {
     /// The text stops being JSON at this byte, counted from 0, or ends here too early.
     #[error("no JSON at byte {0}")]

@@ -3,7 +3,7 @@ use fk_json::JsonFault;
 use std::alloc::{AllocError, AllocFailed};
 
 /// Why a script isn't run to its end.
-#[derive(Drop)]
+#[derive(Clone, Copy)]
 pub(crate) enum Fault {
     /// A line says nothing that can be run.
     BadLine,
