@@ -1,6 +1,5 @@
 pub mod Left
 pub mod Later
-pub mod Adding
 pub mod Served
 pub mod Acknowledged
 pub mod Pushed

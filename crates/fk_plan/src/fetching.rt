@@ -24,7 +24,7 @@ use std::alloc::{AllocError, Global};
 pub(crate) fn fetch(
     alloc: Global,
     tables: &Tables,
-    wid: &Text,
+    wid: Text,
     queues: &Texts,
     moment: u64,
     moves: &mut Moves,
@@ -33,7 +33,7 @@ pub(crate) fn fetch(
     requires moment { moment < greatest }
     requires kept { IsWellKept tables.now.kept }
     ensures ok { (word : ℕ) → IfOk result (λ reply.
-        IsPlan tables.now.kept (Fetch wid.now queues.now) moment word reply moves.new.items) }
+        IsPlan tables.now.kept (Fetch wid queues.now) moment word reply moves.new.items) }
     ensures room { moves.old.spare ≤ length moves.new.items + moves.new.spare }
 {
     let Some(ticket) = first_waiting(tables, queues) else {
@@ -67,18 +67,18 @@ fn first_waiting(tables: &Tables, queues: &Texts) -> Option<u64>
 }
 
 /// The move by which a row goes to a worker.
-fn hand_out(row: &Row, ticket: u64, wid: &Text, moment: u64) -> Result<Move, AllocError>
+fn hand_out(row: &Row, ticket: u64, wid: Text, moment: u64) -> Result<Move, AllocError>
     requires moment { moment < greatest }
     requires seconds { row.now.job.reserve_for ≤ most_reserve }
     ensures { IfOk result (λ step.
-        step ≡ move_to ticket (reserved_row moment wid.now row.now)) }
+        step ≡ move_to ticket (reserved_row moment wid row.now)) }
 {
     Ok(Move::Put {
         ticket,
         enqueued: row.stamp.enqueued,
         failure: copied(&row.stamp.failure)?,
         place: Place::Working {
-            wid: wid.copied()?,
+            wid,
             since: moment,
             until: later_by(row.job.reserve_for, moment),
         },

@@ -24,34 +24,34 @@ use std::alloc::{AllocError, Global};
 pub fn plan(
     alloc: Global,
     tables: &Tables,
-    ask: &Ask,
+    ask: Ask,
     moment: u64,
     word: u64,
     moves: &mut Moves,
 ) -> Result<Reply, AllocError>
     requires empty { moves.old.items ≡ [] }
     requires moment { moment < greatest }
-    requires range { IsInRange ask.now }
+    requires range { IsInRange ask }
     requires above { IsAboveAll tables.now.kept.next tables.now.kept.rows }
     ensures reply { IfOk result (λ reply.
-        reply ≡ (turn (without_workers tables.now.kept) ask.now moment word).reply) }
+        reply ≡ (turn (without_workers tables.now.kept) ask moment word).reply) }
     ensures moves { OnOk result
-        (moves.new.items ≡ moves_of_turn (without_workers tables.now.kept) ask.now moment word) }
+        (moves.new.items ≡ moves_of_turn (without_workers tables.now.kept) ask moment word) }
 
     // They lead to what the turn leaves, unless that would be over the limit, and there is none exactly
     // where the turn leaves the kept state as it is.
-    ensures leads { OnOk result (¬ IsOverLimit (without_workers tables.now.kept) ask.now moment word
+    ensures leads { OnOk result (¬ IsOverLimit (without_workers tables.now.kept) ask moment word
         → Lead tables.now.kept moves.new.items
-        (turn (without_workers tables.now.kept) ask.now moment word).state.kept) }
+        (turn (without_workers tables.now.kept) ask moment word).state.kept) }
     ensures stays { OnOk result ((moves.new.items ≡ [])
-        ↔ ((turn (without_workers tables.now.kept) ask.now moment word).state.kept
+        ↔ ((turn (without_workers tables.now.kept) ask moment word).state.kept
         ≡ tables.now.kept)) }
 
     ensures none { OnErr result (moves.new.items ≡ []) }
     ensures room { moves.old.spare ≤ length moves.new.items + moves.new.spare }
 
     // An acknowledgement takes no memory where there is room for its two moves.
-    ensures ready { is_ack ask.now ≡ true → 2 ≤ moves.old.spare → IsOk result }
+    ensures ready { is_ack ask ≡ true → 2 ≤ moves.old.spare → IsOk result }
 {
     are_well_kept(tables);
     match plan_ask(alloc, tables, ask, moment, word, moves) {
@@ -75,28 +75,28 @@ fn are_well_kept(tables: &Tables)
 fn plan_ask(
     alloc: Global,
     tables: &Tables,
-    ask: &Ask,
+    ask: Ask,
     moment: u64,
     word: u64,
     moves: &mut Moves,
 ) -> Result<Reply, AllocError>
     requires empty { moves.old.items ≡ [] }
     requires moment { moment < greatest }
-    requires range { IsInRange ask.now }
+    requires range { IsInRange ask }
     requires kept { IsWellKept tables.now.kept }
     ensures ok { IfOk result (λ reply.
-        IsPlan tables.now.kept ask.now moment word reply moves.new.items) }
+        IsPlan tables.now.kept ask moment word reply moves.new.items) }
     ensures room { moves.old.spare ≤ length moves.new.items + moves.new.spare }
-    ensures ready { is_ack ask.now ≡ true → 2 ≤ moves.old.spare → IsOk result }
+    ensures ready { is_ack ask ≡ true → 2 ≤ moves.old.spare → IsOk result }
 {
     let _ = word;
     match ask {
         Ask::Push { job } => push(alloc, tables, job, moment, moves),
         Ask::PushBatch { jobs, told } => {
-            push_batch(alloc, tables, jobs.jobs(), told, moment, moves)
+            push_batch(alloc, tables, jobs.into_jobs(), told, moment, moves)
         }
-        Ask::Fetch { wid, queues } => fetch(alloc, tables, wid, queues, moment, moves),
-        Ask::Ack { jid } => acknowledge(alloc, tables, jid, moves),
+        Ask::Fetch { wid, queues } => fetch(alloc, tables, wid, &queues, moment, moves),
+        Ask::Ack { jid } => acknowledge(alloc, tables, &jid, moves),
         _ => Ok(not_served(alloc)),
     }
 }

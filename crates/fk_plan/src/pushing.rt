@@ -19,20 +19,20 @@ use std::alloc::{AllocError, Global};
 pub(crate) fn push(
     alloc: Global,
     tables: &Tables,
-    job: &Job,
+    job: Job,
     moment: u64,
     moves: &mut Moves,
 ) -> Result<Reply, AllocError>
     requires { moves.old.items ≡ [] }
     ensures ok { (word : ℕ) → IfOk result (λ reply.
-        IsPlan tables.now.kept (Push job.now) moment word reply moves.new.items) }
+        IsPlan tables.now.kept (Push job) moment word reply moves.new.items) }
     ensures room { moves.old.spare ≤ length moves.new.items + moves.new.spare }
 {
-    if is_later(job, moment) {
+    if is_later(&job, moment) {
         return Ok(not_served(alloc));
     }
     let next = tables.next();
-    let row = waiting_row(job, moment, next)?;
+    let row = waiting_row(job, moment, next);
     moves.push(Move::Add { ticket: next, row })?;
     close(tables, 1, moves)?;
     Ok(ok(alloc))
@@ -42,86 +42,62 @@ pub(crate) fn push(
 pub(crate) fn push_batch(
     alloc: Global,
     tables: &Tables,
-    jobs: &Jobs,
-    told: &Text,
+    jobs: Jobs,
+    told: Text,
     moment: u64,
     moves: &mut Moves,
 ) -> Result<Reply, AllocError>
     requires empty { moves.old.items ≡ [] }
-    requires short { length jobs.now.items < 2 ^ 32 }
+    requires short { length jobs.items < 2 ^ 32 }
     ensures ok { (word : ℕ) → IfOk result (λ reply.
-        IsPlan tables.now.kept (PushBatch jobs.now.items told.now) moment word reply
-        moves.new.items) }
+        IsPlan tables.now.kept (PushBatch jobs.items told) moment word reply moves.new.items) }
     ensures room { moves.old.spare ≤ length moves.new.items + moves.new.spare }
 {
-    if is_any_later(jobs, moment) {
+    if is_any_later(&jobs, moment) {
         return Ok(not_served(alloc));
     }
-    let reply = Reply::Bulk(told.copied()?);
     if jobs.is_empty() {
-        return Ok(reply);
+        return Ok(Reply::Bulk(told));
     }
-    add_rows(tables.next(), jobs, moment, moves)?;
-    close(tables, jobs.len() as u64, moves)?;
-    Ok(reply)
+    let pushed = jobs.len() as u64;
+    add_rows(tables.next(), jobs.into_vec(), moment, moves)?;
+    close(tables, pushed, moves)?;
+    Ok(Reply::Bulk(told))
 }
 
 /// Adds a new row for each job, under the tickets from a number on.
-fn add_rows(next: u64, jobs: &Jobs, moment: u64, moves: &mut Moves) -> Result<(), AllocError>
-    requires fits { next + length jobs.now.items < 2 ^ 64 }
-    requires due { list_any (is_later moment) jobs.now.items ≡ false }
+fn add_rows(next: u64, jobs: Vec<Job>, moment: u64, moves: &mut Moves) -> Result<(), AllocError>
+    requires fits { next + length jobs.items < 2 ^ 64 }
+    requires due { list_any (is_later moment) jobs.items ≡ false }
     ensures ok { OnOk result (moves.new.items
-        ≡ moves.old.items ++ moves_of_push moment next jobs.now.items) }
+        ≡ moves.old.items ++ moves_of_push moment next jobs.items) }
     ensures room { moves.old.spare + length moves.old.items
         ≤ length moves.new.items + moves.new.spare }
 {
     moves.reserve(jobs.len())?;
-    'adding: for at in 0..jobs.len() {
-        add_row(next + at as u64, jobs, at, moment, moves)?;
+    let mut ticket = next;
+    'adding: for job in jobs {
+        let row = waiting_row(job, moment, ticket);
+        moves.push(Move::Add { ticket, row })?;
+        ticket += 1;
     }
     Ok(())
 }
 
-/// Adds a new row for the job at a place. Those of the jobs behind it are left.
-#[tactic(auto, using(crate::proofs::Adding::one_added, std::proofs::lemmas::Option::slice_get_within))]
-fn add_row(
-    ticket: u64,
-    jobs: &Jobs,
-    at: usize,
-    moment: u64,
-    moves: &mut Moves,
-) -> Result<(), AllocError>
-    requires within { at < length jobs.now.items }
-    requires due { list_any (is_later moment) jobs.now.items ≡ false }
-    ensures ok { OnOk result (moves.old.items
-        ++ moves_of_push moment ticket (drop at jobs.now.items)
-        ≡ moves.new.items ++ moves_of_push moment (ticket + 1) (drop (at + 1) jobs.now.items)) }
-    ensures room { moves.old.spare + length moves.old.items
-        ≤ length moves.new.items + moves.new.spare }
-{
-    match jobs.get(at) {
-        None => Ok(()),
-        Some(job) => {
-            let row = waiting_row(job, moment, ticket)?;
-            moves.push(Move::Add { ticket, row })
-        }
-    }
-}
-
 /// The row of a job that waits from now on, with its ticket for a rank.
-fn waiting_row(job: &Job, moment: u64, ticket: u64) -> Result<Row, AllocError>
-    requires { is_later moment job.now ≡ false }
-    ensures { IfOk result (λ row. row ≡ pushed_row moment ticket job.now) }
+fn waiting_row(job: Job, moment: u64, ticket: u64) -> Row
+    requires { is_later moment job ≡ false }
+    ensures { result ≡ pushed_row moment ticket job }
 {
-    Ok(Row {
-        job: job.copied()?,
+    Row {
+        job,
         stamp: Stamp {
             created: moment,
             enqueued: Some(moment),
             failure: None,
         },
         place: Place::Queued { rank: ticket },
-    })
+    }
 }
 
 /// Adds the numbers at the end, where so many jobs were pushed.

@@ -4,7 +4,7 @@ use Rattle.fk_plan.proofs.fetching.fetch.Goals as goal
 pub returns-in_default-clause-ok : goal.returns-in_default-clause-ok
 returns-in_default-clause-ok c = λ word.
     rw c.requires.empty
-    (none_fetched c.args.tables.now.kept c.args.wid.now c.args.queues.now c.args.moment word
+    (none_fetched c.args.tables.now.kept c.args.wid c.args.queues.now c.args.moment word
     c.in_default.ensures)
 
 -- the row of the first ticket is there
@@ -35,5 +35,5 @@ returns-clause-ok c = λ word.
       c.processed.ensures,
       c.failures.ensures,
     )
-    (one_fetched c.args.tables.now.kept c.args.wid.now c.args.queues.now c.args.moment word
+    (one_fetched c.args.tables.now.kept c.args.wid c.args.queues.now c.args.moment word
     c.in-Some.ticket c.in-Some-row.row.now c.requires.kept c.in-Some.ensures c.in-Some-row.ensures)

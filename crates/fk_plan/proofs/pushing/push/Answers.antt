@@ -9,8 +9,8 @@ returns-clause-ok c = λ word.
       c.in_ok-close.ensures.ok,
       c.in_ok-push.ensures.ok,
       c.requires,
-      c.in_ok-row.ensures,
+      c.waiting_row-row.ensures,
       c.next-next.ensures.value,
     )
-    (push_planned c.args.tables.now.kept c.args.job.now c.args.moment word
+    (push_planned c.args.tables.now.kept c.args.job c.args.moment word
     (sym c.is_later.ensures ∙ c.if-is_later.false))
