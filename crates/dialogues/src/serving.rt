@@ -33,7 +33,7 @@ pub fn serve(alloc: Global, run: &Run, tables: &mut Tables) -> Result<Outcome, S
         to: ByteSink::new(alloc, &run.failing_writes)?,
         width: run.width,
     };
-    let mut store = MemoryStore::over(replace(tables, Tables::empty(alloc)), clock, dice);
+    let mut store = MemoryStore::over(alloc, replace(tables, Tables::empty(alloc)), clock, dice);
     let status = pipe(alloc, &run.words, &mut input, &mut output, &mut store);
     *tables = store.into_tables();
     Ok(Outcome {

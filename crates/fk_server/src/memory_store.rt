@@ -7,9 +7,12 @@ ghost use Rattle.fk_server.specs.Turning.{MakesTurn, server};
 use crate::turn::turn_at;
 use fk_core::Tables;
 use fk_io::{Clock, Dice};
-use fk_model::{Answer, Ask};
+use fk_model::{Answer, Ask, Moves};
 use std::alloc::Global;
 use std::marker::Model;
+
+/// The most moves whose memory is kept from one turn to the next.
+const MOVES_KEPT: usize = 64;
 
 /// What turns are made of, without a disk: tables, in which the kept state stands, a clock and dice.
 /// No worker is known yet.
@@ -18,6 +21,8 @@ pub struct MemoryStore<C: Clock, J: Dice> {
     tables: Tables,
     clock: C,
     dice: J,
+    /// The list for the moves of a turn, which is made once.
+    moves: Moves,
 }
 
 impl<C: Clock, J: Dice> Model for MemoryStore<C, J> {
@@ -47,11 +52,12 @@ impl<C: Clock, J: Dice> MemoryStore<C, J> {
         ensures clock { result.clock ≡ clock }
         ensures dice { result.dice ≡ dice }
     {
-        MemoryStore::over(Tables::empty(alloc), clock, dice)
+        MemoryStore::over(alloc, Tables::empty(alloc), clock, dice)
     }
 
-    /// A store over these tables, whose next number is above all tickets and ranks.
-    pub fn over(tables: Tables, clock: C, dice: J) -> MemoryStore<C, J>
+    /// A store over these tables, whose next number is above all tickets and ranks. It takes no
+    /// memory.
+    pub fn over(alloc: Global, tables: Tables, clock: C, dice: J) -> MemoryStore<C, J>
         requires { IsAboveAll tables.kept.next tables.kept.rows }
         ensures { result ≡ record {
           server = server (without_workers tables.kept) (C.moments clock) (J.words dice);
@@ -66,18 +72,21 @@ impl<C: Clock, J: Dice> MemoryStore<C, J> {
             tables,
             clock,
             dice,
+            moves: Moves::new(alloc),
         }
     }
 
     /// Makes one turn, which takes one moment and one word, whatever it answers. Its answer may be
     /// want of memory, which leaves the state as it is.
-    pub fn turn(&mut self, alloc: Global, ask: &Ask) -> Answer
-        requires { IsInRange ask.now }
-        ensures { MakesTurn self.old.server self.new.server ask.now result }
+    pub fn turn(&mut self, alloc: Global, ask: Ask) -> Answer
+        requires { IsInRange ask }
+        ensures { MakesTurn self.old.server self.new.server ask result }
     {
         let moment = self.clock.now();
         let word = self.dice.roll();
-        turn_at(alloc, &mut self.tables, ask, moment, word)
+        let answer = turn_at(alloc, &mut self.tables, &mut self.moves, ask, moment, word);
+        self.moves.clear_keeping(MOVES_KEPT);
+        answer
     }
 }
 
@@ -92,6 +101,7 @@ impl<C: Clock + Drop, J: Dice + Drop> MemoryStore<C, J> {
             tables,
             clock: _,
             dice: _,
+            moves: _,
         } = self;
         tables
     }

@@ -25,7 +25,7 @@ pub(crate) fn reply_to<C: Clock, J: Dice>(
     match item {
         Item::Own(reply) => Ok(reply),
         Item::Asks(ask) => {
-            let answer = store.turn(alloc, &ask);
+            let answer = store.turn(alloc, ask);
             Ok(reply_of(alloc, answer))
         }
     }

@@ -13,31 +13,32 @@ use fk_model::{Answer, Ask, Move, Moves};
 use fk_plan::plan;
 use std::alloc::{AllocError, Global};
 
-/// The turn of a moment and a word.
+/// The turn of a moment and a word. Its moves are listed in `moves`, whatever was there.
 pub(crate) fn turn_at(
     alloc: Global,
     tables: &mut Tables,
-    ask: &Ask,
+    moves: &mut Moves,
+    ask: Ask,
     moment: u64,
     word: u64,
 ) -> Answer
     requires moment { moment < greatest }
-    requires range { IsInRange ask.now }
+    requires range { IsInRange ask }
     requires between { IsBetweenTurns (without_workers tables.old.kept) }
     ensures step { IsStep (without_workers tables.old.kept)
-        (entry_of ask.now moment word result) (without_workers tables.new.kept) }
+        (entry_of ask moment word result) (without_workers tables.new.kept) }
     ensures between { IsBetweenTurns (without_workers tables.new.kept) }
 {
     // The next number is within its limit.
     let _ = tables.next();
-    let mut moves = Moves::new(alloc);
-    let Ok(reply) = plan(alloc, tables, ask, moment, word, &mut moves) else {
+    moves.clear();
+    let Ok(reply) = plan(alloc, tables, ask, moment, word, moves) else {
         return Answer::NoMemory;
     };
-    if is_over_limit(&moves) {
+    if is_over_limit(moves) {
         return Answer::Full;
     }
-    match make_moves(tables, &mut moves) {
+    match make_moves(tables, moves) {
         Ok(()) => Answer::Said(reply),
         Err(_) => Answer::NoMemory,
     }
