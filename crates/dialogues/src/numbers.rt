@@ -7,7 +7,10 @@ const TIMES_MAX: usize = 16_777_216;
 
 /// The number that a text says.
 pub fn number(text: &str) -> Result<u64, ScriptFault> {
-    text.parse::<u64>().map_err(|_| ScriptFault::NoNumber)
+    match text.parse() {
+        Ok(number) => Ok(number),
+        Err(_) => Err(ScriptFault::NoNumber),
+    }
 }
 
 /// The numbers that a text says, with spaces between them.

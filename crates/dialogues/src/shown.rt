@@ -59,6 +59,18 @@ fn push_byte(into: &mut String, byte: u8) -> Result<(), AllocError> {
         b'\n' => into.push_str("\\n"),
         b'\\' => into.push_str("\\\\"),
         b' '..=b'~' => into.push(char::from(byte)),
-        _ => write!(into, "\\x{byte:02x}"),
+        _ => push_escape(into, byte),
     }
+}
+
+/// Adds the escape of a byte by its number.
+fn push_escape(into: &mut String, byte: u8) -> Result<(), AllocError> {
+    into.push_str("\\x")?;
+    into.push(digit_of(byte / 16))?;
+    into.push(digit_of(byte % 16))
+}
+
+/// The hexadecimal digit of a value, or of its last one.
+fn digit_of(value: u8) -> char {
+    char::from(b"0123456789abcdef"[usize::from(value % 16)])
 }

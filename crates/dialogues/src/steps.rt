@@ -43,20 +43,29 @@ pub fn move_of(alloc: Global, text: &str) -> Result<Move, ScriptFault> {
 /// SINCE UNTIL`.
 fn place_of(alloc: Global, words: &[&str]) -> Result<Place, ScriptFault> {
     match words {
-        ["queued", rank] => Ok(Place::Queued {
-            rank: number(rank)?,
-        }),
-        ["scheduled", at] => Ok(Place::Scheduled { at: number(at)? }),
-        ["retry", at] => Ok(Place::Retry { at: number(at)? }),
-        ["dead", until] => Ok(Place::Dead {
-            until: number(until)?,
-        }),
-        ["working", since, until] => Ok(Place::Working {
-            wid: Text::fixed(alloc, b""),
-            since: number(since)?,
-            until: number(until)?,
-        }),
+        [kind, at] => place_at(kind, number(at)?),
+        ["working", since, until] => Ok(working(alloc, number(since)?, number(until)?)),
         _ => Err(ScriptFault::NoMove),
+    }
+}
+
+/// The place of a kind that has one number, a rank or a moment.
+fn place_at(kind: &str, at: u64) -> Result<Place, ScriptFault> {
+    match kind {
+        "queued" => Ok(Place::Queued { rank: at }),
+        "scheduled" => Ok(Place::Scheduled { at }),
+        "retry" => Ok(Place::Retry { at }),
+        "dead" => Ok(Place::Dead { until: at }),
+        _ => Err(ScriptFault::NoMove),
+    }
+}
+
+/// The place of a row that a worker without a name has.
+fn working(alloc: Global, since: u64, until: u64) -> Place {
+    Place::Working {
+        wid: Text::fixed(alloc, b""),
+        since,
+        until,
     }
 }
 

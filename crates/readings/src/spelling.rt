@@ -37,10 +37,11 @@ fn spell_byte(out: &mut Vec<u8>, byte: u8) -> Result<(), AllocError> {
         b'\n' => out.extend_from_slice(b"\\n"),
         b'\t' => out.extend_from_slice(b"\\t"),
         b' '..=b'~' => out.extend_from_slice(&[byte]),
-        _ => {
-            let alloc = *out.allocator();
-            let escape = format!(in alloc; "\\x{byte:02x}")?;
-            out.extend_from_slice(escape.as_bytes())
-        }
+        _ => out.extend_from_slice(&[b'\\', b'x', digit_of(byte / 16), digit_of(byte % 16)]),
     }
+}
+
+/// The hexadecimal digit of a value, or of its last one.
+fn digit_of(value: u8) -> u8 {
+    b"0123456789abcdef"[usize::from(value % 16)]
 }
