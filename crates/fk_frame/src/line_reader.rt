@@ -67,6 +67,7 @@ impl LineReader {
         ensures err { OnErr result (self.new ≡ self.old) }
         ensures wanted { OnErr result (0 < length piece.now) }
     {
+        self.give_up_front();
         self.buffer.extend_from_slice(piece)
     }
 
