@@ -1,6 +1,9 @@
 pub mod Parts
 pub mod Rising
-pub mod Filing
 pub mod Views
-pub mod Steps
-pub mod Placed
+pub mod Chunking
+pub mod Halving
+pub mod Spotted
+pub mod Parting
+pub mod Soundness
+pub mod Tabled

@@ -5,7 +5,7 @@ use Rattle.std.proofs.lemmas.Bool.Decides.{nat_tests}
 use Rattle.std.proofs.lemmas.List.Elements.{filter-append}
 use Rattle.fk_model.specs.declared.row.Row.{Row}
 use Rattle.fk_model.specs.Rows.{ticket_of, filed_at, with_row, with_changed, without_row}
-use Rattle.fk_rows.specs.Stored.{AreAbove, AreBelow}
+use Rattle.fk_rows.specs.Order.{AreAbove, AreBelow}
 
 abbrev Filed : Type 0
 Filed = ℕ × Row

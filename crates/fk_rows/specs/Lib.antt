@@ -1,3 +1,6 @@
 pub mod Room
-pub mod Stored
-pub mod Places
+pub mod Order
+pub mod Chunks
+pub mod Searches
+pub mod Spots
+pub mod Table

@@ -1,44 +1,43 @@
-ghost use Rattle.std.specs.Prelude.{◌≡◌, ◌+◌, ◌^◌, ◌<◌, ◌≤◌, [], length, option_map, slice_get, IsOk, IsSome, OnOk, None};
-ghost use Rattle.std.specs.List.{remove};
+ghost use Rattle.std.specs.Prelude.{◌≡◌, ◌+◌, ◌^◌, ◌<◌, ◌≤◌, [], length, option_map, slice_get, max, IsOk, IsSome, OnOk, None};
 ghost use Rattle.std.specs.Option.{option_copied};
-ghost use Rattle.fk_model.specs.Rows.{row_of, filed_at, row_at, with_row, with_changed, without_row, IsByTicket};
+ghost use Rattle.fk_model.specs.Rows.{filed_at, row_at, row_of, with_row, with_changed, without_row, IsByTicket};
 ghost use Rattle.fk_model.specs.Changes.{put_row};
 
-use crate::slots::{
-    change_in, enter, exchange, held_in, leave, place_of, row_behind, row_in, slot_at,
-};
+use crate::chunks::Chunks;
+use crate::row_box::RowBox;
 use fk_job::Failure;
 use fk_model::{Place, Row};
 use std::alloc::{AllocError, Global};
-use std::collections::VecDeque;
 use std::marker::Model;
+
+/// One more than the most rows: as many as a deque may have.
+const TOO_MANY: usize = 9_223_372_036_854_775_808;
 
 /// Rows under their tickets, in order of ticket, and the number of those that may be put without
 /// taking memory.
 #[derive(Drop)]
 pub struct Rows {
-    // A ticket, and the slot of its row.
-    entries: VecDeque<(u64, usize)>,
-    slots: Vec<Option<(u64, Row)>>,
-    // The slots that hold nothing.
-    free: Vec<usize>,
+    alloc: Global,
+    held: Chunks,
+    count: usize,
+    // Memory for rows to come.
+    boxes: Vec<RowBox>,
 }
 
 impl Model for Rows {
-    ghost use Rattle.std.specs.Prelude.{length, vec_capacity};
-    ghost use Rattle.std.specs.VecDeque.{deque_capacity};
+    ghost use Rattle.std.specs.Prelude.{length};
     ghost use Rattle.fk_rows.specs.Room.{Room};
-    ghost use Rattle.fk_rows.specs.Stored.{seen, IsSound};
+    ghost use Rattle.fk_rows.specs.Chunks.{rows_of};
+    ghost use Rattle.fk_rows.specs.Table.{IsTable};
 
     ghost Value = { Room };
 
     ghost view = { λ rows. record {
-      items = seen rows.slots.items rows.entries.items;
-      spare = length rows.free.items;
+      items = rows_of rows.held.chunks;
+      spare = length rows.boxes.items;
     } };
 
-    ghost invariant = { λ rows. IsSound rows.entries.items rows.slots.items rows.free.items
-        (deque_capacity rows.entries) (vec_capacity rows.free) };
+    ghost invariant = { λ rows. IsTable rows.held rows.count (length rows.boxes.items) };
 }
 
 impl Rows {
@@ -47,9 +46,10 @@ impl Rows {
         ensures { result.items ≡ [] }
     {
         Rows {
-            entries: VecDeque::new(alloc),
-            slots: Vec::new(alloc),
-            free: Vec::new(alloc),
+            alloc,
+            held: Chunks::new(alloc),
+            count: 0,
+            boxes: Vec::new(alloc),
         }
     }
 
@@ -60,32 +60,14 @@ impl Rows {
         ensures same { self.new.items ≡ self.old.items }
         ensures ready { more ≤ self.old.spare → IsOk result }
     {
-        'growing: while self.spare() < more {
-            self.add_slot()?;
+        if more <= self.boxes.len() {
+            return Ok(());
         }
-        Ok(())
-    }
-
-    // The number of free slots.
-    fn spare(&self) -> usize
-        ensures { result ≡ self.now.spare }
-    {
-        self.free.len()
-    }
-
-    // Makes room for one row more.
-    fn add_slot(&mut self) -> Result<(), AllocError>
-        ensures ok { OnOk result (self.new.spare ≡ self.old.spare + 1) }
-        ensures kept { self.old.spare ≤ self.new.spare }
-        ensures same { self.new.items ≡ self.old.items }
-    {
-        self.entries.reserve(self.free.len() + 1)?;
-        self.free.reserve(self.entries.len() + 1)?;
-        self.slots.reserve(1)?;
-        let slot = self.slots.len();
-        self.slots.push_reserved(None);
-        self.free.push_reserved(slot);
-        Ok(())
+        if more >= TOO_MANY - self.count {
+            return Err(AllocError);
+        }
+        self.held.reserve(more)?;
+        make_until(&mut self.boxes, more, self.alloc)
     }
 
     /// Puts a row under a ticket that has none.
@@ -95,12 +77,13 @@ impl Rows {
         ensures items { self.new.items ≡ with_row self.old.items ticket row }
         ensures spare { self.new.spare + 1 ≡ self.old.spare }
     {
-        match place_of(&self.entries, ticket) {
+        match self.held.spot_of(ticket) {
             Ok(_) => (),
-            Err(at) => {
-                if let Some(slot) = self.free.pop() {
-                    let _ = exchange(&mut self.slots, slot, Some((ticket, row)));
-                    enter(&mut self.entries, at, ticket, slot);
+            Err(spot) => {
+                if let Some(mut held) = self.boxes.pop() {
+                    held.set(row);
+                    self.held.insert(spot, ticket, held);
+                    self.count += 1;
                 }
             }
         }
@@ -110,8 +93,8 @@ impl Rows {
     pub fn get(&self, ticket: u64) -> Option<&Row>
         ensures { option_copied result ≡ row_at self.now.items ticket }
     {
-        match place_of(&self.entries, ticket) {
-            Ok(at) => row_behind(self.filed(at)),
+        match self.held.spot_of(ticket) {
+            Ok(spot) => row_in(self.held.filed_at(spot)),
             Err(_) => None,
         }
     }
@@ -121,20 +104,9 @@ impl Rows {
         ensures { option_map (λ filed. (filed.0, filed.1.now)) result
             ≡ slice_get self.now.items place }
     {
-        match self.filed(place) {
-            Some(filed) => Some((filed.0, &filed.1)),
+        match self.held.filed_at(self.held.spot_at(place)) {
+            Some(filed) => Some((filed.0, filed.1.row())),
             None => None,
-        }
-    }
-
-    // A ticket with its row, by place.
-    fn filed(&self, at: usize) -> Option<&(u64, Row)>
-        ensures { option_copied result ≡ slice_get self.now.items at }
-    {
-        if at < self.entries.len() {
-            held_in(&self.slots, slot_at(&self.entries, at))
-        } else {
-            None
         }
     }
 
@@ -151,40 +123,27 @@ impl Rows {
             ≡ with_changed self.old.items ticket (put_row enqueued failure place) }
         ensures kept { self.new.spare ≡ self.old.spare }
     {
-        match place_of(&self.entries, ticket) {
-            Ok(at) => {
-                let slot = slot_at(&self.entries, at);
-                change_in(&mut self.slots, slot, enqueued, failure, place);
-            }
+        match self.held.spot_of(ticket) {
+            Ok(spot) => self.held.change(spot, enqueued, failure, place),
             Err(_) => (),
         }
     }
 
-    /// Takes the row of a ticket out. The room that it took is room again.
+    /// Takes the row of a ticket out. Its memory is given back, and the room stays.
     pub fn take(&mut self, ticket: u64) -> Option<Row>
         ensures value { result ≡ row_at self.old.items ticket }
         ensures items { self.new.items ≡ without_row self.old.items ticket }
-        ensures kept { length self.new.items + self.new.spare
-            ≡ length self.old.items + self.old.spare }
+        ensures kept { self.old.spare ≤ self.new.spare }
     {
-        match place_of(&self.entries, ticket) {
-            Ok(at) => self.take_at(at),
+        match self.held.spot_of(ticket) {
+            Ok(spot) => {
+                let taken = self.held.remove(spot);
+                self.count -= 1;
+                self.held.give_back(self.boxes.len());
+                unboxed(taken)
+            }
             Err(_) => None,
         }
-    }
-
-    // Takes the row at a place out.
-    fn take_at(&mut self, at: usize) -> Option<Row>
-        requires { at < length self.old.items }
-        ensures value { result ≡ option_map row_of (slice_get self.old.items at) }
-        ensures items { self.new.items ≡ remove self.old.items at }
-        ensures kept { length self.new.items + self.new.spare
-            ≡ length self.old.items + self.old.spare }
-    {
-        let slot = leave(&mut self.entries, at);
-        let held = exchange(&mut self.slots, slot, None);
-        self.free.push_reserved(slot);
-        row_in(held)
     }
 
     /// The number of rows.
@@ -193,16 +152,47 @@ impl Rows {
         ensures small { result < 2 ^ 63 }
         ensures order { IsByTicket self.now.items }
     {
-        self.entries.len()
+        self.count
     }
 
-    /// Takes all rows out. The room that they took is room again.
+    /// Takes all rows out. Their memory is given back, and the room stays.
     pub fn clear(&mut self)
         ensures items { self.new.items ≡ [] }
-        ensures kept { length self.old.items + self.old.spare ≤ self.new.spare }
+        ensures kept { self.old.spare ≤ self.new.spare }
     {
-        'clearing: while self.count() > 0 {
-            let _ = self.take_at(0);
-        }
+        self.held.clear();
+        self.count = 0;
+    }
+}
+
+// Makes memory for rows until there is as much as this.
+fn make_until(boxes: &mut Vec<RowBox>, count: usize, alloc: Global) -> Result<(), AllocError>
+    ensures ok { OnOk result (length boxes.new.items ≡ max count (length boxes.old.items)) }
+    ensures kept { length boxes.old.items ≤ length boxes.new.items }
+    ensures within { length boxes.new.items ≤ max count (length boxes.old.items) }
+{
+    'making: while boxes.len() < count {
+        boxes.push(RowBox::new(alloc)?)?;
+    }
+    Ok(())
+}
+
+// The row without its ticket.
+fn row_in(filed: Option<&(u64, RowBox)>) -> Option<&Row>
+    ensures { option_copied result ≡ option_map row_of (option_copied filed.entry) }
+{
+    match filed {
+        Some(filed) => Some(filed.1.row()),
+        None => None,
+    }
+}
+
+// The row, taken out of its memory.
+fn unboxed(taken: Option<RowBox>) -> Option<Row>
+    ensures { result ≡ taken }
+{
+    match taken {
+        Some(held) => Some(held.into_row()),
+        None => None,
     }
 }
