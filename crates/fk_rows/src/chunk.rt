@@ -21,7 +21,7 @@ pub(crate) const FULL: usize = 2048;
 pub(crate) const HALF: usize = 1024;
 
 /// Some rows under their tickets. There is room for so many as a chunk has at most.
-#[derive(Debug, Drop)]
+#[derive(Drop)]
 pub(crate) struct Chunk {
     filed: VecDeque<(u64, RowBox)>,
 }

@@ -16,7 +16,7 @@ use std::marker::Model;
 
 /// Rows in chunks, and how many more they take without memory, wherever these come in: a full chunk
 /// is parted by one that is held ready.
-#[derive(Debug, Drop)]
+#[derive(Drop)]
 pub(crate) struct Chunks {
     alloc: Global,
     pub(crate) chunks: VecDeque<Chunk>,

@@ -8,7 +8,7 @@ use std::alloc::{AllocError, Global};
 use std::marker::Model;
 
 /// A row in memory of its own, so that it stays where it is while its chunk moves.
-#[derive(Debug, Drop)]
+#[derive(Drop)]
 pub(crate) struct RowBox {
     row: Box<Row>,
 }
