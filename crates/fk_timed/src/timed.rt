@@ -110,6 +110,9 @@ impl Timed {
     pub fn until(&self, moment: u64, out: &mut Pairs) -> Result<(), AllocError>
         ensures ok { OnOk result (out.new.items ≡ out.old.items ++ up_to moment self.now.items) }
         ensures err { OnErr result (out.new.items ≡ out.old.items) }
+        ensures kept { OnOk result
+            (out.old.spare ≤ out.new.spare + length (up_to moment self.now.items)) }
+        ensures ready { length (up_to moment self.now.items) ≤ out.old.spare → IsOk result }
         ensures order { IsRising self.now.items }
     {
         self.tree.until(moment, out)

@@ -8,3 +8,4 @@ pub mod Puts
 pub mod Takes
 pub mod Due
 pub mod Counts
+pub mod Settled

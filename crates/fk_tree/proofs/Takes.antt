@@ -1,9 +1,9 @@
 -- A pair is taken out of one of the sides of a node, or from between them.
 use Rattle.std.proofs.Common.{◌≡◌, ℕ, ◌+◌, ◌≤◌, true, List, ◌∷◌, ◌++◌, sym, ap, subst, ◌∙◌, arith}
-use Rattle.std.specs.Prelude.{◌↔◌, Bool, IsTrue, Contains}
+use Rattle.std.specs.Prelude.{◌↔◌, Contains}
 use Rattle.std.proofs.lemmas.List.Elements.{Contains-append_left}
 use Rattle.fk_tree.specs.Order.{comes_before, without_pair, IsRising}
-use Rattle.fk_tree.specs.Shape.{Shape, AreSides, IsFull, IsOver, pairs_over}
+use Rattle.fk_tree.specs.Shape.{Shape, AreSides, IsBare, IsFull, IsOver, pairs_over}
 use Rattle.fk_tree.proofs.Rising.{rising_filter, rising_less}
 use Rattle.fk_tree.proofs.Around.{without_left, without_right, without_middle, found_left, found_right, found_in_right, found_middle}
 
@@ -57,20 +57,20 @@ take_right side left right after node pair over before done = record {
 
 -- ---- whether it was there
 
-pub told_left : (found : Bool) (side left right : Shape) (node pair : ℕ × ℕ) → IsOver side left node right
-    → comes_before pair node ≡ true → (IsTrue found ↔ Contains left.pairs pair)
-    → (IsTrue found ↔ Contains side.pairs pair)
-told_left found side left right node pair over before told =
-    let Told : List (ℕ × ℕ) → Type 0 = λ pairs. IsTrue found ↔ Contains pairs pair in subst Told (sym over.pairs) (
+pub told_left : (Found : Type 0) (side left right : Shape) (node pair : ℕ × ℕ) → IsOver side left node right
+    → comes_before pair node ≡ true → (Found ↔ Contains left.pairs pair)
+    → (Found ↔ Contains side.pairs pair)
+told_left Found side left right node pair over before told =
+    let Told : List (ℕ × ℕ) → Type 0 = λ pairs. Found ↔ Contains pairs pair in subst Told (sym over.pairs) (
       (λ yes. Contains-append_left left.pairs (node ∷ right.pairs) pair (told.0 yes)),
       (λ there. told.1 (found_left pair left.pairs node right.pairs over.sides.rising before there)),
     )
 
-pub told_right : (found : Bool) (side left right : Shape) (node pair : ℕ × ℕ) → IsOver side left node right
-    → comes_before node pair ≡ true → (IsTrue found ↔ Contains right.pairs pair)
-    → (IsTrue found ↔ Contains side.pairs pair)
-told_right found side left right node pair over before told =
-    let Told : List (ℕ × ℕ) → Type 0 = λ pairs. IsTrue found ↔ Contains pairs pair in subst Told (sym over.pairs) (
+pub told_right : (Found : Type 0) (side left right : Shape) (node pair : ℕ × ℕ) → IsOver side left node right
+    → comes_before node pair ≡ true → (Found ↔ Contains right.pairs pair)
+    → (Found ↔ Contains side.pairs pair)
+told_right Found side left right node pair over before told =
+    let Told : List (ℕ × ℕ) → Type 0 = λ pairs. Found ↔ Contains pairs pair in subst Told (sym over.pairs) (
       (λ yes. found_in_right pair left.pairs node right.pairs (told.0 yes)),
       (λ there. told.1 (found_right pair left.pairs node right.pairs over.sides.rising before there)),
     )
@@ -98,6 +98,12 @@ next_between left right after pair first sides pairs not_lower not_higher full =
   left_full = sides.left_full;
   right_full = full;
 }
+
+-- with no left side, the pair between is the first
+pub bare_left : (side left right : Shape) (node : ℕ × ℕ) → IsOver side left node right → IsBare left
+    → side.pairs ≡ node ∷ right.pairs
+bare_left side left right node over bare =
+    over.pairs ∙ ap (λ (front : List (ℕ × ℕ)). front ++ node ∷ right.pairs) bare.pairs
 
 -- a left side without its first pair
 pub first_left : (side left right after : Shape) (node first : ℕ × ℕ) → IsOver side left node right

@@ -1,5 +1,5 @@
 -- A node with its two sides, and the side that it stands at the top of.
-use Rattle.std.proofs.Common.{◌≡◌, ℕ, ◌<◌, ◌∷◌, ◌++◌, length, length-append, ap, sym, subst, ◌∙◌, arith, Box, Option, Some}
+use Rattle.std.proofs.Common.{◌≡◌, ℕ, ◌+◌, ◌<◌, max, ◌∷◌, ◌++◌, length, length-append, ap, sym, subst, ◌∙◌, arith, Box, Option, Some}
 use Rattle.std.specs.declared.alloc.Global.{Global}
 use Rattle.fk_tree.specs.declared.side.Node.{Node}
 use Rattle.fk_tree.specs.Shape.{Shape, AreSides, IsOver, pairs_over, height_over}
@@ -23,6 +23,25 @@ top_is side top node view balanced is =
     over_is side node.value.left node.value.right (pair_of node.value.key)
     (sym (ap (λ (shape : Shape). shape.pairs) view) ∙ ap pairs_of is)
     (sym (ap (λ (shape : Shape). shape.height) view) ∙ ap height_of is ∙ there.1) there.0
+
+-- the same of what is read of that node
+pub top_now : (side : Shape) (top : Option (Box Node Global)) (node : Box Node Global) (now : Node)
+    → record { pairs = pairs_of top; height = height_of top } ≡ side → IsBalanced top → top ≡ Some node
+    → now ≡ node.value → IsOver side now.left (pair_of now.key) now.right
+top_now side top node now view balanced is same =
+    subst (λ (value : Node). IsOver side value.left (pair_of value.key) value.right) (sym same)
+    (top_is side top node view balanced is)
+
+-- it tells the height
+pub top_told : (side : Shape) (top : Option (Box Node Global)) (node : Box Node Global) (now : Node)
+    → record { pairs = pairs_of top; height = height_of top } ≡ side → top ≡ Some node
+    → now ≡ node.value → now.height ≡ side.height
+top_told side top node now view is same =
+    ap (λ (value : Node). value.height) same ∙ sym (ap height_of is) ∙ ap (λ (shape : Shape). shape.height) view
+
+pub height_is : (side left right : Shape) (pair : ℕ × ℕ) → IsOver side left pair right
+    → side.height ≡ max left.height right.height + 1
+height_is side left right pair over = over.height
 
 -- each side has fewer pairs
 pub shorter_left : (side left right : Shape) (pair : ℕ × ℕ) → IsOver side left pair right

@@ -2,6 +2,7 @@
 #![tactic(auto)]
 
 mod key;
+mod levels;
 mod putting;
 mod reading;
 mod side;

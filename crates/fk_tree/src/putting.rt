@@ -1,41 +1,44 @@
-ghost use Rattle.std.specs.Prelude.{◌≡◌, ◌+◌, ◌^◌, ◌<◌, ◌≤◌, length};
+ghost use Rattle.std.specs.Prelude.{◌≡◌, ◌+◌, ◌^◌, ◌<◌, ◌≤◌, length, false};
 ghost use Rattle.fk_tree.specs.Order.{with_pair, AreOthers};
 ghost use Rattle.fk_tree.specs.Shape.{IsFull};
 ghost use Rattle.fk_tree.specs.Side.{pair_of};
 
-use crate::side::{Node, Parts, Side};
+use crate::levels::settle;
+use crate::side::{Node, Side};
 use crate::steps::Steps;
 use std::cmp::Ordering;
 use std::sync::ledger::Ledger;
 
 impl Side {
-    /// Puts a node at the place of its pair, which isn't there.
+    /// Puts a node at the place of its pair, which isn't there, and tells whether the side rose by a
+    /// level. A node is touched above the new one only as far as heights change.
     #[tactic(auto, using(crate::proofs::Tops::shorter_left, crate::proofs::Tops::shorter_right, crate::proofs::Puts::others_left, crate::proofs::Puts::others_right))]
-    pub(crate) fn put<L: Ledger>(&mut self, new: Box<Node>, steps: &mut Steps<L>)
+    pub(crate) fn put<L: Ledger>(&mut self, new: Box<Node>, steps: &mut Steps<L>) -> bool
         requires few { length self.old.pairs + 1 < 2 ^ 64 }
         requires absent { AreOthers (pair_of new.value.key) self.old.pairs }
         ensures pairs { self.new.pairs ≡ with_pair (pair_of new.value.key) self.old.pairs }
         ensures not_lower { self.old.height ≤ self.new.height }
         ensures not_higher { self.new.height ≤ self.old.height + 1 }
+        ensures told { result ≡ false → self.new.height ≡ self.old.height }
         ensures full { IsFull self.new }
         ensures steps { steps.new ≤ steps.old + self.old.height }
     {
-        let Some(
-            Parts {
-                node,
-                mut left,
-                mut right,
-            },
-        ) = self.take().into_parts()
-        else {
+        let Some(node) = &mut self.top else {
             *self = Side::over(new, Side::empty(), Side::empty());
-            return;
+            return true;
         };
         match node.key.order(new.key.moment, new.key.ticket, steps) {
-            Ordering::Less => left.put(new, steps),
-            Ordering::Greater => right.put(new, steps),
+            Ordering::Less => {
+                let rose = node.left.put(new, steps);
+                let before = node.height;
+                return settle(&mut self.top, before, rose);
+            }
+            Ordering::Greater => {
+                let rose = node.right.put(new, steps);
+                let before = node.height;
+                return settle(&mut self.top, before, rose);
+            }
             Ordering::Equal => unreachable!(),
         }
-        *self = Side::balanced(node, left, right);
     }
 }

@@ -1,6 +1,6 @@
 ghost use Rattle.std.specs.Prelude.{◌≡◌, ◌<◌, max, IfNone, IfSome};
 ghost use Rattle.fk_tree.specs.Shape.{AreSides, IsBare, IsOver};
-ghost use Rattle.fk_tree.specs.Side.{pair_of};
+ghost use Rattle.fk_tree.specs.Side.{pair_of, pairs_of, height_of, IsBalanced};
 
 use crate::key::Key;
 use std::marker::Model;
@@ -94,6 +94,15 @@ impl Side {
         mem::replace(self, Side::empty())
     }
 
+    /// The node at the top.
+    pub(crate) fn into_top(self) -> Option<Box<Node>>
+        ensures pairs { pairs_of result ≡ self.pairs }
+        ensures height { height_of result ≡ self.height }
+        ensures balanced { IsBalanced result }
+    {
+        self.top
+    }
+
     /// The node at the top, and its two sides.
     pub(crate) fn into_parts(self) -> Option<Parts>
         ensures some { IfSome result (λ parts.
@@ -118,5 +127,13 @@ impl Node {
             key: Key { moment, ticket },
             right: Side::empty(),
         }
+    }
+
+    /// What stands on its right side, which is left empty.
+    pub(crate) fn take_right(&mut self) -> Side
+        ensures right { result ≡ self.old.right }
+        ensures key { self.new.key ≡ self.old.key }
+    {
+        self.right.take()
     }
 }

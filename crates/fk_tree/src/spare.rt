@@ -6,11 +6,13 @@ use crate::side::{Node, Side};
 use std::alloc::{AllocError, Global};
 use std::marker::Model;
 
-/// Nodes for pairs to come, seen as their number.
+/// Nodes for pairs to come, seen as their number. A node of a pair that was taken out is kept beside
+/// them, so that a pair that is put next needs no other memory.
 #[derive(Drop)]
 pub(crate) struct Spare {
     alloc: Global,
     nodes: Vec<Box<Node>>,
+    last: Option<Box<Node>>,
 }
 
 impl Model for Spare {
@@ -29,6 +31,7 @@ impl Spare {
         Spare {
             alloc,
             nodes: Vec::new(alloc),
+            last: None,
         }
     }
 
@@ -47,10 +50,17 @@ impl Spare {
         ensures ready { count ≤ self.old → IsOk result }
     {
         'nodes: while self.nodes.len() < count {
-            let node = Box::new(self.alloc, Node::single(0, 0))?;
+            let node = made(self.alloc, self.last.take())?;
             self.nodes.push(node)?;
         }
         Ok(())
+    }
+
+    /// Keeps a node that isn't needed any more.
+    pub(crate) fn keep(&mut self, node: Box<Node>)
+        ensures { self.new ≡ self.old }
+    {
+        self.last = Some(node);
     }
 
     /// Takes a node out, with a pair in it.
@@ -65,4 +75,12 @@ impl Spare {
         node.key = Key { moment, ticket };
         node
     }
+}
+
+// This node, or a new one.
+fn made(alloc: Global, node: Option<Box<Node>>) -> Result<Box<Node>, AllocError> {
+    if let Some(node) = node {
+        return Ok(node);
+    }
+    Ok(Box::new(alloc, Node::single(0, 0))?)
 }

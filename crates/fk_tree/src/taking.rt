@@ -1,80 +1,118 @@
-ghost use Rattle.std.specs.Prelude.{◌≡◌, ◌∷◌, ◌++◌, ◌+◌, ◌^◌, ◌<◌, ◌≤◌, ◌↔◌, length, max, IfSome, IfNone, IsTrue, Contains};
+ghost use Rattle.std.specs.Prelude.{◌≡◌, ◌∷◌, ◌++◌, ◌+◌, ◌-◌, ◌^◌, ◌<◌, ◌≤◌, ◌↔◌, false, length, max, IfSome, IfNone, IsNone, IsSome, Contains};
 ghost use Rattle.fk_tree.specs.Order.{without_pair};
 ghost use Rattle.fk_tree.specs.Shape.{height_over, AreSides, IsBare, IsFull};
-ghost use Rattle.fk_tree.specs.Side.{pair_of};
+ghost use Rattle.fk_tree.specs.Side.{pair_of, pairs_of, height_of, sides_of, IsBalanced};
 
 use crate::key::Key;
-use crate::side::{Node, Parts, Side};
+use crate::levels::settle;
+use crate::side::{Node, Side};
 use crate::steps::Steps;
 use std::cmp::Ordering;
+use std::mem;
 use std::sync::ledger::Ledger;
 
 impl Side {
-    /// Takes the node of a pair out, and tells whether it was there.
+    /// Takes the node of a pair out into `taken`, if it is there, and tells whether the side fell by a
+    /// level. A node is touched above it only as far as heights change.
     #[tactic(auto, using(crate::proofs::Tops::shorter_left, crate::proofs::Tops::shorter_right))]
-    pub(crate) fn remove<L: Ledger>(&mut self, key: Key, steps: &mut Steps<L>) -> bool
+    pub(crate) fn remove<L: Ledger>(
+        &mut self,
+        key: Key,
+        taken: &mut Option<Box<Node>>,
+        steps: &mut Steps<L>,
+    ) -> bool
         requires few { length self.old.pairs < 2 ^ 64 }
-        ensures found { IsTrue result ↔ Contains self.old.pairs (pair_of key) }
+        requires none { IsNone taken.old }
+        ensures found { IsSome taken.new ↔ Contains self.old.pairs (pair_of key) }
         ensures pairs { self.new.pairs ≡ without_pair (pair_of key) self.old.pairs }
         ensures not_lower { self.old.height ≤ self.new.height + 1 }
         ensures not_higher { self.new.height ≤ self.old.height }
+        ensures told { result ≡ false → self.new.height ≡ self.old.height }
         ensures full { IsFull self.new }
         ensures steps { steps.new ≤ steps.old + self.old.height }
     {
-        let Some(
-            Parts {
-                node,
-                mut left,
-                mut right,
-            },
-        ) = self.take().into_parts()
-        else {
+        let Some(node) = &mut self.top else {
             return false;
         };
-        let found = match node.key.order(key.moment, key.ticket, steps) {
-            Ordering::Less => left.remove(key, steps),
-            Ordering::Greater => right.remove(key, steps),
-            Ordering::Equal => {
-                *self = joined(left, right, key, steps);
-                return true;
+        match node.key.order(key.moment, key.ticket, steps) {
+            Ordering::Less => {
+                let fell = node.left.remove(key, taken, steps);
+                let before = node.height;
+                return settle(&mut self.top, before, fell);
             }
-        };
-        *self = Side::balanced(node, left, right);
-        found
+            Ordering::Greater => {
+                let fell = node.right.remove(key, taken, steps);
+                let before = node.height;
+                return settle(&mut self.top, before, fell);
+            }
+            Ordering::Equal => return remove_top(&mut self.top, taken, steps),
+        }
     }
 
-    // Takes out the first node of a side whose pairs come behind a pair that is taken. Each node on
-    // the way to it is compared once with that pair.
+    // Takes the first node of a side whose pairs come behind a pair that is taken out into `first`,
+    // and tells whether the side fell by a level. Each node on the way to it is compared once with
+    // that pair.
     #[tactic(auto, using(crate::proofs::Tops::shorter_left))]
-    fn remove_first<L: Ledger>(&mut self, key: Key, steps: &mut Steps<L>) -> Option<Box<Node>>
+    fn remove_first<L: Ledger>(
+        &mut self,
+        key: Key,
+        first: &mut Option<Box<Node>>,
+        steps: &mut Steps<L>,
+    ) -> bool
         requires few { length self.old.pairs < 2 ^ 64 }
-        ensures none { IfNone result (self.new.pairs ≡ self.old.pairs) }
-        ensures empty { IfNone result (IsBare self.old) }
-        ensures some { IfSome result (λ node.
+        requires none { IsNone first.old }
+        ensures empty { IfNone first.new (IsBare self.old) }
+        ensures none { IfNone first.new (self.new ≡ self.old) }
+        ensures first { IfSome first.new (λ node.
             self.old.pairs ≡ pair_of node.value.key ∷ self.new.pairs) }
         ensures not_lower { self.old.height ≤ self.new.height + 1 }
         ensures not_higher { self.new.height ≤ self.old.height }
+        ensures told { result ≡ false → self.new.height ≡ self.old.height }
         ensures full { IsFull self.new }
         ensures steps { steps.new ≤ steps.old + self.old.height }
     {
-        let Some(
-            Parts {
-                node,
-                mut left,
-                right,
-            },
-        ) = self.take().into_parts()
-        else {
-            return None;
+        let Some(node) = &mut self.top else {
+            return false;
         };
         let _ = node.key.order(key.moment, key.ticket, steps);
-        let Some(first) = left.remove_first(key, steps) else {
-            *self = right;
-            return Some(node);
-        };
-        *self = Side::balanced(node, left, right);
-        Some(first)
+        let fell = node.left.remove_first(key, first, steps);
+        if first.is_some() {
+            let before = node.height;
+            return settle(&mut self.top, before, fell);
+        }
+        let right = node.take_right();
+        *first = mem::replace(&mut self.top, right.into_top());
+        true
     }
+}
+
+// Takes what stands there out into `taken`. Its sides stay, as one side.
+fn remove_top<L: Ledger>(
+    top: &mut Option<Box<Node>>,
+    taken: &mut Option<Box<Node>>,
+    steps: &mut Steps<L>,
+) -> bool
+    requires few { length (sides_of top.old) < 2 ^ 64 }
+    requires balanced { IsBalanced top.old }
+    ensures taken { IsSome taken.new ↔ IsSome top.old }
+    ensures pairs { pairs_of top.new ≡ sides_of top.old }
+    ensures balanced { IsBalanced top.new }
+    ensures not_lower { height_of top.old ≤ height_of top.new + 1 }
+    ensures not_higher { height_of top.new ≤ height_of top.old }
+    ensures told { result ≡ false → height_of top.new ≡ height_of top.old }
+    ensures steps { steps.new ≤ steps.old + (height_of top.old - 1) }
+{
+    let Some(node) = top else {
+        *taken = None;
+        return false;
+    };
+    let before = node.height;
+    let left = node.left.take();
+    let right = node.right.take();
+    let rest = joined(left, right, node.key, steps);
+    let fell = rest.height() != before;
+    *taken = mem::replace(top, rest.into_top());
+    fell
 }
 
 // The two sides of a taken node as one side: the next pair behind the taken one comes to the top.
@@ -87,7 +125,9 @@ fn joined<L: Ledger>(left: Side, mut right: Side, key: Key, steps: &mut Steps<L>
     ensures full { IsFull result }
     ensures steps { steps.new ≤ steps.old + right.height }
 {
-    match right.remove_first(key, steps) {
+    let mut first = None;
+    right.remove_first(key, &mut first, steps);
+    match first {
         None => left,
         Some(node) => Side::balanced(node, left, right),
     }

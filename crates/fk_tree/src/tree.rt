@@ -129,11 +129,14 @@ impl Tree {
         ensures spare { self.new.spare ≡ self.old.spare }
         ensures steps { AreFew (length self.old.items) steps.old steps.new }
     {
-        let found = self.root.remove(Key { moment, ticket }, steps);
-        if found {
-            self.count -= 1;
-        }
-        found
+        let mut taken = None;
+        self.root.remove(Key { moment, ticket }, &mut taken, steps);
+        let Some(node) = taken else {
+            return false;
+        };
+        self.count -= 1;
+        self.spare.keep(node);
+        true
     }
 
     /// The first pair.
@@ -149,6 +152,9 @@ impl Tree {
     pub fn until(&self, moment: u64, out: &mut Pairs) -> Result<(), AllocError>
         ensures ok { OnOk result (out.new.items ≡ out.old.items ++ up_to moment self.now.items) }
         ensures err { OnErr result (out.new.items ≡ out.old.items) }
+        ensures kept { OnOk result
+            (out.old.spare ≤ out.new.spare + length (up_to moment self.now.items)) }
+        ensures ready { length (up_to moment self.now.items) ≤ out.old.spare → IsOk result }
         ensures order { IsRising self.now.items }
     {
         out.reserve(self.root.count_up_to(moment))?;

@@ -5,12 +5,13 @@ use Rattle.fk_tree.proofs.taking.joined.Goals as goal
 
 pub balanced-requires-clause-sides : goal.balanced-requires-clause-sides
 balanced-requires-clause-sides g c =
-    let done = c.in-Some.ensures in
-    next_between _ _ _ _ _ c.requires.sides done.some done.not_lower done.not_higher done.full
+    let done = c.remove_first.ensures in
+    let first = rw c.in-Some.is at done.first in
+    next_between _ _ _ _ _ c.requires.sides first done.not_lower done.not_higher done.full
 
 pub balanced-requires-clause-low : goal.balanced-requires-clause-low
 balanced-requires-clause-low g c =
     let all = length-append c.args.left.pairs c.args.right.pairs in
     let low = low_height c.args.left c.requires.sides.left_full (omega (arith, all, c.requires.few)) in
     let other = low_height c.args.right c.requires.sides.right_full (omega (arith, all, c.requires.few)) in
-    omega (arith, low, other, c.in-Some.ensures.not_higher)
+    omega (arith, low, other, c.remove_first.ensures.not_higher)
