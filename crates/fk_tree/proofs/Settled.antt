@@ -93,8 +93,10 @@ raised_left side left node pair rose over told few others before done same =
       near = (sides, omega (arith, level, low, done.not_higher));
       pairs = put_left_pairs side left node.value.right node.value.left (pair_of node.value.key) pair over before done;
       before = told;
-      still = (λ is. (still_sides 2 left node.value.right node.value.left node.value.right (pair_of node.value.key) over.sides sides (same is) refl,
-          omega (arith, told, level, same is)));
+      still = (λ is. (
+        still_sides 2 left node.value.right node.value.left node.value.right (pair_of node.value.key) over.sides sides (same is) refl,
+        omega (arith, told, level, same is),
+      ));
       within = (λ new allowed. let bound = rises left.height node.value.left.height node.value.right.height new over.sides.differ.0 over.sides.differ.1
           done.not_lower done.not_higher allowed.0 allowed.1 allowed.2 in (omega (arith, bound.0, level), omega (arith, bound.1, level)));
     }
@@ -113,8 +115,10 @@ raised_right side right node pair rose over told few others before done same =
       near = (sides, omega (arith, level, low, done.not_higher));
       pairs = put_right_pairs side node.value.left right node.value.right (pair_of node.value.key) pair over before done;
       before = told;
-      still = (λ is. (still_sides 2 node.value.left right node.value.left node.value.right (pair_of node.value.key) over.sides sides refl (same is),
-          omega (arith, told, level, same is)));
+      still = (λ is. (
+        still_sides 2 node.value.left right node.value.left node.value.right (pair_of node.value.key) over.sides sides refl (same is),
+        omega (arith, told, level, same is),
+      ));
       within = (λ new allowed. let bound = rises right.height node.value.right.height node.value.left.height new over.sides.differ.1 over.sides.differ.0
           done.not_lower done.not_higher (omega (arith, allowed.0)) (omega (arith, allowed.1))
           (λ even. let is : new ≡ max node.value.left.height node.value.right.height + 1 = allowed.2 (even.1, even.0) in omega (arith, is)) in
@@ -137,8 +141,10 @@ lowered_left all side left node fell over told few sides pairs not_lower not_hig
       near = (sides, omega (arith, level, low, not_higher));
       pairs = pairs;
       before = told;
-      still = (λ is. (still_sides 2 left node.value.right node.value.left node.value.right (pair_of node.value.key) over.sides sides (same is) refl,
-          omega (arith, told, level, same is)));
+      still = (λ is. (
+        still_sides 2 left node.value.right node.value.left node.value.right (pair_of node.value.key) over.sides sides (same is) refl,
+        omega (arith, told, level, same is),
+      ));
       within = (λ new allowed. let bound = falls left.height node.value.left.height node.value.right.height new over.sides.differ.0 over.sides.differ.1
           not_lower not_higher allowed.0 allowed.1 allowed.2 in (bound.0, omega (arith, bound.1, level)));
     }
@@ -157,8 +163,10 @@ lowered_right all side right node fell over told few sides pairs not_lower not_h
       near = (sides, omega (arith, level, low, not_higher));
       pairs = pairs;
       before = told;
-      still = (λ is. (still_sides 2 node.value.left right node.value.left node.value.right (pair_of node.value.key) over.sides sides refl (same is),
-          omega (arith, told, level, same is)));
+      still = (λ is. (
+        still_sides 2 node.value.left right node.value.left node.value.right (pair_of node.value.key) over.sides sides refl (same is),
+        omega (arith, told, level, same is),
+      ));
       within = (λ new allowed. let bound = falls right.height node.value.right.height node.value.left.height new over.sides.differ.1 over.sides.differ.0
           not_lower not_higher (omega (arith, allowed.0)) (omega (arith, allowed.1))
           (λ even. let is : new ≡ max node.value.left.height node.value.right.height + 1 = allowed.2 (even.1, even.0) in omega (arith, is)) in
