@@ -1,4 +1,4 @@
 pub mod Places
-mod Scans
+pub mod Scans
 mod Apart
 pub mod Lines

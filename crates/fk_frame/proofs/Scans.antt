@@ -1,7 +1,7 @@
 -- A scan that goes on where the last one ended finds what a scan from the front would.
-use Rattle.std.proofs.Common.{◌≡◌, ◌≢◌, ℕ, ◌+◌, ◌-◌, ◌<◌, ◌≤◌, List, ◌++◌, length, drop, arith, get_or, true, false, refl, inl, inr, ap, ◌∙◌}
+use Rattle.std.proofs.Common.{◌≡◌, ◌≢◌, ℕ, ◌+◌, ◌-◌, ◌<◌, ◌≤◌, List, ◌++◌, length, drop, arith, get_or, ◌⊎◌, true, false, refl, inl, inr, ap, ◌∙◌}
 use Rattle.std.specs.List.{position_or_len, slice_range, after_first, Contains}
-use Rattle.std.proofs.lemmas.Bool.{cases_lt, ne_eqb, eqb-true, eqb-false}
+use Rattle.std.proofs.lemmas.Bool.{cases_Bool, cases_lt, ne_eqb, eqb-true, eqb-false}
 use Rattle.std.proofs.lemmas.Bool.Decides.{nat_tests}
 use Rattle.std.proofs.lemmas.List.{get_or-drop, drop-drop, length-drop, get_or_default, take_rest}
 use Rattle.std.proofs.lemmas.List.Sums.{position_or_len_is, fails_before_first, passes_at_first, prefix_len-le-length}
@@ -138,3 +138,22 @@ has_line bytes from scanned end seen is found short = (
   drop (end + 1) bytes,
   first_line bytes from scanned end seen is found short,
 )
+
+-- a stream has a whole line in front, or one that is too long, or no line ends in it
+pub line_or_none : (bytes : List ℕ) → HasLine bytes ⊎ (HasLongLine bytes bytes ⊎ ¬ Contains bytes line_feed)
+line_or_none bytes =
+    let seen : IsScanned bytes 0 0 = record {
+      begun = omega arith;
+      within = omega arith;
+      seen = λ k ge lt. absurd (omega arith);
+    } in
+    let end = scan_end bytes 0 in
+    elim (cases_Bool (is_too_long (slice_range bytes 0 end))) [
+      | inl long ↦ inr (inl (long_line bytes 0 0 end seen refl long))
+      | inr short ↦ elim (cases_lt end (length bytes)) [
+        | inl before ↦ inl (has_line bytes 0 0 end seen refl before short)
+        | inr past ↦ (
+            let all : end ≡ length bytes = omega (arith, scan_within bytes 0 0 seen) in
+            inr (inr (no_line bytes 0 0 end seen refl all short).unended))
+      ]
+    ]
