@@ -6,6 +6,9 @@ ghost use Rattle.fk_frame.specs.declared.reply.Reply.{Reply as AReply};
 use fk_json::Text;
 use std::alloc::{AllocError, Global};
 
+/// What ends each line.
+const LINE_END: &[u8] = b"\r\n";
+
 /// What the server answers to one command.
 #[derive(Drop)]
 pub enum Reply {
@@ -35,13 +38,15 @@ pub fn write_reply(alloc: Global, reply: &Reply) -> Result<Text, AllocError>
     }
 }
 
-// A text between its head and CR LF.
+// A text between its head and CR LF. Its memory is taken at once.
 fn line(alloc: Global, head: &[u8], text: &[u8]) -> Result<Text, AllocError>
     ensures { IfOk result (λ whole. whole ≡ head.now ++ text.now ++ line_end) }
 {
-    let mut whole = Text::copy(alloc, head)?;
+    let room = (head.len() + text.len()).saturating_add(LINE_END.len());
+    let mut whole = Text::with_room(alloc, room)?;
+    whole.push_bytes(head)?;
     whole.push_bytes(text)?;
-    whole.push_bytes(b"\r\n")?;
+    whole.push_bytes(LINE_END)?;
     Ok(whole)
 }
 
