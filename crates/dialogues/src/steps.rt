@@ -105,6 +105,7 @@ pub fn make(alloc: Global, tables: &mut Tables, step: Move) -> Result<(), Script
 }
 
 /// Whether a connection may be served: the next number is above all tickets and ranks.
+#[tactic(auto, using(crate::proofs::Ready::above_all))]
 pub fn is_ready(tables: &Tables) -> bool
     ensures { IsTrue result → IsAboveAll tables.now.kept.next tables.now.kept.rows }
 {
