@@ -1,15 +1,14 @@
 -- Each move as the tables make it: the kept state is the one behind it, and the room for others stays.
-use Rattle.std.proofs.Common.{◌≡◌, ap, refl, ℕ, ◌+◌, ◌≤◌, List, [], ◌∷◌, length, arith}
-use Rattle.std.specs.Prelude.{Bool, false, not, ◌==◌, Option, Some, option_map}
+use Rattle.std.proofs.Common.{◌≡◌, ap, refl, ℕ, ◌+◌, ◌≤◌, List, [], ◌∷◌, arith}
+use Rattle.std.specs.Prelude.{Bool, false, Option, Some, option_map}
 use Rattle.std.specs.Option.{option_map_or}
-use Rattle.std.proofs.lemmas.List.Sums.{length-filter, count_by-le-length}
 use Rattle.fk_job.specs.declared.job.Job.{Job}
 use Rattle.fk_job.specs.declared.failure.Failure.{Failure}
 use Rattle.fk_model.specs.declared.row.Row.{Row}
 use Rattle.fk_model.specs.declared.place.Place.{Place}
 use Rattle.fk_model.specs.declared.move_.Move.{Move}
 use Rattle.fk_model.specs.declared.move_.Move.TheVariants.{Add, Put, Drop, DropAll, Totals}
-use Rattle.fk_model.specs.Rows.{ticket_of, IsByTicket, row_at, with_row, with_changed, without_row}
+use Rattle.fk_model.specs.Rows.{IsByTicket, row_at, with_row, with_changed, without_row}
 use Rattle.fk_model.specs.Changes.{put_row, after_move}
 use Rattle.fk_model.proofs.Counted.{one_if}
 use Rattle.fk_model.proofs.Tickets.{by_ticket_with}
@@ -87,11 +86,6 @@ same_known rows by_ticket = record {
   known = λ ticket row at. ap (option_map (λ (other : Row). other.job)) at;
 }
 
-fewer_without : (rows : List (ℕ × Row)) (ticket : ℕ) → length (without_row rows ticket) ≤ length rows
-fewer_without rows ticket =
-    let other = λ (filed : ℕ × Row). not (ticket_of filed == ticket) in
-    rw (length-filter other rows) (count_by-le-length other rows)
-
 -- ---- each move
 
 module _ (tables : Inside) (now : RowRoom) (after : Index) (by_ticket : IsByTicket tables.rows.items) where
@@ -138,14 +132,14 @@ module _ (tables : Inside) (now : RowRoom) (after : Index) (by_ticket : IsByTick
 
   -- a row less
   pub made_drop : (ticket : ℕ) (row : Row) → now.items ≡ without_row tables.rows.items ticket
-      → length now.items + now.spare ≡ length tables.rows.items + tables.rows.spare → HasLeft ticket row tables.index after
+      → tables.rows.spare ≤ now.spare → HasLeft ticket row tables.index after
       → Makes (Drop ticket) (held_in tables) (held_by now after tables.next tables.processed tables.failures)
   unfolding after_move
-  made_drop ticket row items count left = record {
+  made_drop ticket row items spare left = record {
     kept = rw items refl;
     room = room_left (Drop ticket) (held_in tables) (held_by now after tables.next tables.processed tables.failures)
         (record {
-          rows = omega (arith, ap length items, fewer_without tables.rows.items ticket);
+          rows = omega arith;
           queues = λ name. omega (arith, left.queue_room name);
           leases = λ jid. omega (arith, left.lease_room jid);
           known = rw items (knows_without tables.rows.items ticket by_ticket);
