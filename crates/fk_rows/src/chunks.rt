@@ -185,6 +185,10 @@ impl Chunks {
         ensures items { rows_of self.new.chunks ≡ [] }
         ensures room { self.old.room ≤ self.new.room }
     {
+        if self.chunks.is_empty() {
+            return;
+        }
         empty(&mut self.chunks);
+        self.room = self.room.max(self.store.len().saturating_mul(HALF));
     }
 }

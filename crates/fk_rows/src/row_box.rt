@@ -1,4 +1,4 @@
-ghost use Rattle.std.specs.Prelude.{◌≡◌, IfOk};
+ghost use Rattle.std.specs.Prelude.{◌≡◌};
 ghost use Rattle.fk_model.specs.Changes.{put_row};
 
 use fk_job::{Failure, Job, Stamp};
