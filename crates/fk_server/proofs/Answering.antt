@@ -1,18 +1,19 @@
 -- Lines that are answered one after another.
-use Rattle.std.proofs.Common.{◌≡◌, ◌≢◌, ℕ, List, [], ◌∷◌, ◌++◌, Option, None, Some, Result, Ok, Err, inl, inr, refl, append_assoc}
+use Rattle.std.proofs.Common.{◌≡◌, ◌≢◌, ℕ, List, [], ◌∷◌, ◌++◌, Option, None, Some, Result, Ok, Err, inl, inr, refl, subst, append_assoc}
 use Rattle.std.specs.Prelude.{option_to_list}
 use Rattle.std.specs.Result.{OnOk, IfErr}
 use Rattle.fk_io.specs.declared.fault.Ended.{Ended}
 use Rattle.fk_io.specs.declared.fault.Ended.TheVariants.{NoMemory}
+use Rattle.fk_frame.specs.declared.line_reader.Line.{Line}
 use Rattle.fk_frame.specs.declared.line_reader.Line.TheVariants.{Whole}
-use Rattle.fk_frame.specs.Reading.{IsFirstLine, HasLongLine}
+use Rattle.fk_frame.specs.Reading.{IsFirstLine, HasLine, HasLongLine}
 use Rattle.fk_model.specs.declared.item.Item.{Item}
 use Rattle.fk_model.specs.declared.item.Phase.{Phase}
 use Rattle.fk_model.specs.declared.item.Phase.TheVariants.{Over}
 use Rattle.fk_model.specs.Advance.{Advances}
 use Rattle.fk_model.specs.Script.{AreItemsOf, phase_after, too_long}
 use Rattle.fk_model.proofs.Advance.{stays, joined, by_line, by_long_line}
-use Rattle.fk_server.specs.Answering.{Results, Gives, GivesLine, StopsGiving, StopsAtItem, StopsAtLine, AtHand, Answers, StopsAnswering}
+use Rattle.fk_server.specs.Answering.{Results, Gives, GivesLine, StopsGiving, StopsAtItem, StopsAtLine, AtHand, Answers, IsLeft, StopsAnswering}
 use Rattle.fk_server.proofs.Giving.{gives_nothing, gives_both, starved_first, stops_giving_behind}
 
 -- no line was answered
@@ -35,14 +36,16 @@ answers_more old mid new items before goes gives = record {
 -- some lines were answered, and then the answering stopped
 stops_behind_answers : (ended : Ended) (old mid : AtHand) (done : Results) (begun : Option Item) (phase : Phase)
     (rest : List ℕ) → Answers old mid → Advances mid.phase mid.lines (option_to_list begun) phase rest
-    → StopsGiving ended mid.done done [] begun → StopsAnswering ended old done
-stops_behind_answers ended old mid done begun phase rest before goes stops = record {
+    → StopsGiving ended mid.done done [] begun → IsLeft begun old.lines phase rest
+    → StopsAnswering ended old done
+stops_behind_answers ended old mid done begun phase rest before goes stops left = record {
   answered = before.items ++ [];
   begun = begun;
   phase = phase;
   rest = rest;
   advances = rw (append_assoc before.items [] (option_to_list begun)) (joined before.advances goes);
   stops = stops_giving_behind ended old.done mid.done done before.items [] begun before.gives stops;
+  left = left;
 }
 
 -- a whole line is what the talk goes on by
@@ -60,19 +63,29 @@ answers_line old mid new line before first comes given =
 
 -- the answering of a whole line stopped: before its turn was made, the line stands among what is left
 pub stops_at_line : (ended : Ended) (old mid : AtHand) (done : Results) (line rest : List ℕ)
-    → Answers old mid → IsFirstLine mid.lines line rest
+    → Answers old mid → IsFirstLine mid.lines line rest → mid.phase ≢ Over
     → StopsAtLine ended mid.phase (Whole line) mid.done done → StopsAnswering ended old done
-stops_at_line ended old mid done line rest before first (inl stops) =
+stops_at_line ended old mid done line rest before first going (inl stops) =
     stops_behind_answers ended old mid done None mid.phase mid.lines before (stays mid.phase mid.lines) stops
-stops_at_line ended old mid done line rest before first (inr (item, are, stops)) =
-    stops_behind_answers ended old mid done item (phase_after mid.phase (Whole line)) rest before
-    (line_advances mid.phase mid.lines line rest (option_to_list item) first are) stops
+    (going, inl (line, rest, first))
+stops_at_line ended old mid done line rest before first going (inr (item, are, stops)) =
+    stops_behind_answers ended old mid done (Some item) (phase_after mid.phase (Whole line)) rest before
+    (line_advances mid.phase mid.lines line rest (item ∷ []) first are) stops tt
+
+-- the answering of what a line gives stopped
+pub stops_at_given : (ended : Ended) (phase : Phase) (line : Line) (old new : Results) (item : Option Item)
+    → AreItemsOf phase line (option_to_list item) → StopsAtItem ended old new item
+    → StopsAtLine ended phase line old new
+stops_at_given ended phase line old new None are stops = absurd stops
+stops_at_given ended phase line old new (Some item) are (inl stops) = inl stops
+stops_at_given ended phase line old new (Some item) are (inr stops) = inr (item, are, stops)
 
 -- memory ran out between two lines
-pub starved_between : (old mid : AtHand) → Answers old mid → StopsAnswering NoMemory old mid.done
-starved_between old mid before =
+pub starved_between : (old mid : AtHand) → Answers old mid → mid.phase ≢ Over → HasLine mid.lines
+    → StopsAnswering NoMemory old mid.done
+starved_between old mid before going next =
     stops_behind_answers NoMemory old mid mid.done None mid.phase mid.lines before (stays mid.phase mid.lines)
-    (starved_first mid.done mid.done refl refl)
+    (starved_first mid.done mid.done refl refl) (going, inl next)
 
 -- a line that is too long was answered, or was not
 pub answers_long_line : (r : Result (Unit {0}) Ended) (old mid new : AtHand)
@@ -88,9 +101,10 @@ stops_in_long_line : (ended : Ended) (old mid : AtHand) (done : Results) (rest :
     → StopsAtItem ended mid.done done (Some too_long) → StopsAnswering ended old done
 stops_in_long_line ended old mid done rest before long going (inl stops) =
     stops_behind_answers ended old mid done None mid.phase mid.lines before (stays mid.phase mid.lines) stops
+    (going, inr (inl (subst (HasLongLine mid.lines) long.same long)))
 stops_in_long_line ended old mid done rest before long going (inr stops) =
     stops_behind_answers ended old mid done (Some too_long) Over rest before
-    (by_long_line mid.phase mid.lines rest going long.lines) stops
+    (by_long_line mid.phase mid.lines rest going long.lines) stops tt
 
 pub stops_at_long_line : (r : Result (Unit {0}) Ended) (old mid : AtHand) (done : Results) (rest : List ℕ)
     → Answers old mid → HasLongLine mid.lines rest → mid.phase ≢ Over

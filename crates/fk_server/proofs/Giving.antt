@@ -1,7 +1,7 @@
 -- What items give: turns that are made and replies that are written, whole or up to where a step gives
 -- up.
-use Rattle.std.proofs.Common.{◌≡◌, List, [], ◌∷◌, ◌++◌, length, Option, None, Some, Result, Ok, Err, inr, refl, ap, sym, ◌∙◌, append_assoc}
-use Rattle.std.specs.Prelude.{option_to_list}
+use Rattle.std.proofs.Common.{◌≡◌, ℕ, List, [], ◌∷◌, ◌++◌, length, Option, None, Some, Result, Ok, Err, inr, refl, ap, sym, ◌∙◌, append_assoc}
+use Rattle.std.specs.Prelude.{IfSome, option_to_list}
 use Rattle.std.specs.Result.{OnOk, IfErr}
 use Rattle.std.proofs.lemmas.List.{length-map, map-append}
 use Rattle.fk_io.specs.declared.fault.Ended.{Ended}
@@ -11,11 +11,13 @@ use Rattle.fk_frame.specs.Replies.{reply_bytes}
 use Rattle.fk_model.specs.declared.entry.Entry.{Entry}
 use Rattle.fk_model.specs.declared.item.Item.{Item}
 use Rattle.fk_model.specs.Out.{asks_of, out, output}
-use Rattle.fk_model.proofs.Outs.{asks_of-append, out-append, output-append}
+use Rattle.fk_model.specs.Script.{greeting}
+use Rattle.fk_model.proofs.Outs.{asks_of-append, out-append, out_goes_on, output-append}
+use Rattle.fk_server.specs.Session.{Begins, IsPartOf}
 use Rattle.fk_server.specs.Turning.{Replies, answers_in, asks_in}
 use Rattle.fk_server.specs.Answering.{Wrote, StopsWriting, Results, Gives, StopsAtItem, StopsGiving}
 use Rattle.fk_server.proofs.Turning.{turned_nothing, turned_both}
-use Rattle.fk_server.proofs.Writing.{wrote_nothing, wrote_both, starved_at_once, begins_behind, stops_behind}
+use Rattle.fk_server.proofs.Writing.{wrote_nothing, wrote_both, starved_at_once, begins_behind, begins_more, part_behind, part_of_more, stops_behind}
 
 -- ---- histories of items
 
@@ -90,6 +92,7 @@ starved_first old new same stays = record {
   part = [];
   whole = ([], refl);
   stops = rw same (starved_at_once old.out []);
+  cut = tt;
 }
 
 -- an item's reply wasn't written whole
@@ -105,7 +108,19 @@ stops_at_reply (Err ended) old new item reply replied writing = inr (record {
   part = writing.part;
   whole = (writing.part, refl);
   stops = rw replied.bytes at writing.stops;
+  cut = rw replied.bytes at writing.is_part;
 })
+
+-- a reply that was cut is cut behind others, too
+pub cut_behind : (items answered : List Item) (begun : Option Item) (xs ys : List Entry) (part : List ℕ)
+    → asks_in xs ≡ asks_of items
+    → IfSome begun (λ item. IsPartOf part (out (answered ++ item ∷ []) (answers_in ys)))
+    → IfSome begun (λ item. IsPartOf (out items (answers_in xs) ++ part)
+    (out ((items ++ answered) ++ item ∷ []) (answers_in (xs ++ ys))))
+cut_behind items answered None xs ys part asks cut = tt
+cut_behind items answered (Some item) xs ys part asks cut =
+    rw (append_assoc items answered (item ∷ []), out_both items (answered ++ item ∷ []) xs ys asks)
+    (part_behind (out items (answers_in xs)) part (out (answered ++ item ∷ []) (answers_in ys)) cut)
 
 -- some items were given, and then a step gave up
 pub stops_giving_behind : (ended : Ended) (old mid new : Results) (items answered : List Item) (begun : Option Item)
@@ -122,4 +137,27 @@ stops_giving_behind ended old mid new items answered begun first stops =
       whole = rw (out_both items answered first.history stops.history first.asks) (begins_behind _ _ _ stops.whole);
       stops = rw (all, out_both items due first.history stops.history first.asks)
           (stops_behind ended old.out mid.out new.out _ _ stops.part first.wrote stops.stops);
+      cut = cut_behind items answered begun first.history stops.history stops.part first.asks stops.cut;
     }
+
+-- ---- what is due to more items
+
+-- what is due to some items is a front of what is due to them and more
+due_begins : (front behind : List Item) (history : List Entry)
+    → Begins (output front (answers_in history)) (output (front ++ behind) (answers_in history))
+due_begins front behind history =
+    let (rest, whole) = out_goes_on front behind (answers_in history) in
+    begins_behind greeting (out front (answers_in history)) (out (front ++ behind) (answers_in history)) (rest, whole)
+
+-- a part of what was due is one of that, too
+pub part_of_due : (front behind : List Item) (history : List Entry) (part : List ℕ)
+    → IsPartOf part (output front (answers_in history)) → IsPartOf part (output (front ++ behind) (answers_in history))
+part_of_due front behind history part is_part =
+    let (rest, whole) = due_begins front behind history in
+    rw whole (part_of_more part (output front (answers_in history)) rest is_part)
+
+pub begins_due : (front behind : List Item) (history : List Entry) (part : List ℕ)
+    → Begins part (output front (answers_in history)) → Begins part (output (front ++ behind) (answers_in history))
+begins_due front behind history part begins =
+    let (rest, whole) = due_begins front behind history in
+    rw whole (begins_more part (output front (answers_in history)) rest begins)

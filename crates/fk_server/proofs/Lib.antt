@@ -3,6 +3,7 @@ pub mod Writing
 pub mod Giving
 pub mod Answering
 pub mod BetweenReads
+pub mod Wanted
 pub mod Ends
 pub mod Breaks
 pub mod Words

@@ -1,10 +1,13 @@
 -- Bytes that are written in steps.
-use Rattle.std.proofs.Common.{◌≡◌, ℕ, List, [], ◌++◌, refl, ap, sym, ◌∙◌, arith, append_assoc, length-append}
+use Rattle.std.proofs.Common.{◌≡◌, ℕ, ◌<◌, List, [], ◌++◌, length, refl, ap, sym, ◌∙◌, arith, append_assoc, length-append}
 use Rattle.fk_io.specs.declared.fault.Ended.{Ended}
 use Rattle.fk_io.specs.declared.fault.Ended.TheVariants.{Closed, ReadFault, WriteFault, Spent, NoMemory}
 use Rattle.fk_io.specs.Content.{Written, Gained}
 use Rattle.fk_io.specs.Faults.{Rose}
 use Rattle.fk_io.proofs.Content.{gained_nothing, gained_both}
+use Rattle.fk_frame.specs.declared.reply.Reply.{Reply}
+use Rattle.fk_frame.specs.declared.reply.Reply.TheVariants.{Status, Error, Bulk, Nil}
+use Rattle.fk_frame.specs.Replies.{reply_bytes}
 use Rattle.fk_server.specs.Session.{Begins, IsPartOf}
 use Rattle.fk_server.specs.Answering.{BreaksOff, Wrote, Starved, Stops, StopsWriting}
 
@@ -59,10 +62,29 @@ stopped_gained NoMemory old new bytes part stops = stops.gained
 pub rose_since : (before now later : ℕ) → now ≡ before → Rose now later → Rose before later
 rose_since before now later same rose = rw same at rose
 
+-- each reply has some bytes
+pub some_bytes : (reply : Reply) → 0 < length (reply_bytes reply)
+some_bytes (Status text) = omega arith
+some_bytes (Error text) = omega arith
+some_bytes (Bulk text) = omega arith
+some_bytes Nil = omega arith
+
+-- memory ran out before a reply was written
+pub starved_at_reply : (out : Written) (reply : Reply) → StopsWriting NoMemory out out (reply_bytes reply)
+starved_at_reply out reply = record {
+  part = [];
+  is_part = (reply_bytes reply, some_bytes reply, refl);
+  stops = starved_at_once out (reply_bytes reply);
+}
+
 -- a write failed
 pub stops_at_write : (old new : Written) (bytes : List ℕ) → BreaksOff old new bytes
     → StopsWriting WriteFault old new bytes
-stops_at_write old new bytes breaks = record { part = breaks.part; stops = breaks.broke }
+stops_at_write old new bytes breaks = record {
+  part = breaks.part;
+  is_part = breaks.broke.is_part;
+  stops = breaks.broke;
+}
 
 -- some bytes were written, and then a step gave up at more
 pub stops_behind : (ended : Ended) (old mid new : Written) (xs ys part : List ℕ)

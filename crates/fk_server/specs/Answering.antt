@@ -1,13 +1,16 @@
 -- The steps of a session between two reads.
-use Rattle.std.specs.Prelude.{◌≡◌, ◌⊎◌, ℕ, List, [], ◌++◌, Option, None, option_to_list}
+use Rattle.std.specs.Prelude.{◌≡◌, ◌≢◌, ◌⊎◌, ℕ, List, [], ◌∷◌, ◌++◌, Option, None, Some, IfSome, Contains, option_to_list}
 use Rattle.fk_io.specs.declared.fault.Ended.{Ended}
 use Rattle.fk_io.specs.declared.fault.Ended.TheVariants.{Closed, ReadFault, WriteFault, Spent, NoMemory}
 use Rattle.fk_io.specs.Content.{Written, Gained}
 use Rattle.fk_io.specs.Faults.{Rose}
 use Rattle.fk_frame.specs.declared.line_reader.Line.{Line}
+use Rattle.fk_frame.specs.Bytes.{line_feed}
+use Rattle.fk_frame.specs.Reading.{HasLine, HasLongLine}
 use Rattle.fk_model.specs.declared.entry.Entry.{Entry}
 use Rattle.fk_model.specs.declared.item.Item.{Item}
 use Rattle.fk_model.specs.declared.item.Phase.{Phase}
+use Rattle.fk_model.specs.declared.item.Phase.TheVariants.{Over}
 use Rattle.fk_model.specs.Script.{AreItemsOf}
 use Rattle.fk_model.specs.Out.{asks_of, out}
 use Rattle.fk_model.specs.Advance.{Advances}
@@ -46,9 +49,10 @@ Stops WriteFault old new bytes part = Broke old new bytes part
 Stops Spent old new bytes part = ⊥
 Stops NoMemory old new bytes part = Starved old new bytes part
 
--- and that part is one of them
+-- and that part is one of them, and not all
 pub record StopsWriting (ended : Ended) (old new : Written) (bytes : List ℕ) : Type 0 where
   pub part : List ℕ
+  pub is_part : IsPartOf part bytes
   pub stops : Stops ended old new bytes part
 
 -- ---- what lines give
@@ -69,7 +73,7 @@ pub record Gives (old new : Results) (items : List Item) : Type 0 where
   pub wrote : Wrote old.out new.out (out items (answers_in history))
 
 -- A step gave up: some items were answered, and perhaps one more was begun to be. Its turn was
--- made, and of its reply a part was written.
+-- made, and of its reply a part was written, and not all.
 pub record StopsGiving (ended : Ended) (old new : Results) (answered : List Item) (begun : Option Item)
     : Type 0 where
   pub history : List Entry
@@ -79,6 +83,8 @@ pub record StopsGiving (ended : Ended) (old new : Results) (answered : List Item
   pub whole : Begins (out answered (answers_in history)) part
   pub stops :
       Stops ended old.out new.out (out (answered ++ option_to_list begun) (answers_in history)) part
+  pub cut :
+      IfSome begun (λ item. IsPartOf part (out (answered ++ item ∷ []) (answers_in history)))
 
 -- a line was answered
 pub record GivesLine (phase : Phase) (line : Line) (old new : Results) : Type 0 where
@@ -89,15 +95,15 @@ pub record GivesLine (phase : Phase) (line : Line) (old new : Results) : Type 0 
 -- the step that was to answer an item, if there is one, gave up: before its turn was made, or
 -- behind that
 abbrev pub StopsAtItem : Ended → Results → Results → Option Item → Type 0
-StopsAtItem ended old new item =
-    StopsGiving ended old new [] None ⊎ StopsGiving ended old new [] item
+StopsAtItem ended old new None = ⊥
+StopsAtItem ended old new (Some item) =
+    StopsGiving ended old new [] None ⊎ StopsGiving ended old new [] (Some item)
 
 -- the step that was to answer a line gave up: before it was read, or at its item
 abbrev pub StopsAtLine : Ended → Phase → Line → Results → Results → Type 0
 StopsAtLine ended phase line old new =
     StopsGiving ended old new [] None
-    ⊎ ((item : Option Item) × AreItemsOf phase line (option_to_list item)
-    × StopsGiving ended old new [] item)
+    ⊎ ((item : Item) × AreItemsOf phase line (item ∷ []) × StopsGiving ended old new [] (Some item))
 
 -- ---- the lines at hand
 
@@ -116,6 +122,14 @@ pub record Answers (old new : AtHand) : Type 0 where
   pub advances : Advances old.phase old.lines items new.phase new.lines
   pub gives : Gives old.done new.done items
 
+-- what is left where no line was begun to be answered: the talk goes on, and a line is next, whole or
+-- too long; or none ends in all that was at hand
+abbrev pub IsLeft : Option Item → List ℕ → Phase → List ℕ → Type 0
+IsLeft (Some item) lines phase rest = Unit {0}
+IsLeft None lines phase rest =
+    (phase ≢ Over)
+    × (HasLine rest ⊎ (HasLongLine rest rest ⊎ ((rest ≡ lines) × ¬ Contains lines line_feed)))
+
 -- the answering of the lines at hand stopped at one of them
 pub record StopsAnswering (ended : Ended) (old : AtHand) (done : Results) : Type 0 where
   pub answered : List Item
@@ -124,3 +138,4 @@ pub record StopsAnswering (ended : Ended) (old : AtHand) (done : Results) : Type
   pub rest : List ℕ
   pub advances : Advances old.phase old.lines (answered ++ option_to_list begun) phase rest
   pub stops : StopsGiving ended old.done done answered begun
+  pub left : IsLeft begun old.lines phase rest

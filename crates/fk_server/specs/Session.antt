@@ -1,9 +1,10 @@
 -- What a session on one connection does, by how it ends.
-use Rattle.std.specs.Prelude.{◌≡◌, ◌⊎◌, ℕ, ◌<◌, ◌≤◌, ◌^◌, List, [], ◌++◌, length, drop, Option, option_to_list}
+use Rattle.std.specs.Prelude.{◌≡◌, ◌≢◌, ◌⊎◌, ℕ, ◌-◌, ◌<◌, ◌≤◌, ◌^◌, List, [], ◌++◌, length, drop, slice_index, Option, option_to_list}
 use Rattle.fk_io.specs.declared.fault.Ended.{Ended}
 use Rattle.fk_io.specs.declared.fault.Ended.TheVariants.{Closed, ReadFault, WriteFault, Spent, NoMemory}
 use Rattle.fk_io.specs.Content.{Supply, Written, Took, Gained, IsAtEnd}
 use Rattle.fk_io.specs.Faults.{Rose}
+use Rattle.fk_frame.specs.Bytes.{line_feed}
 use Rattle.fk_model.specs.declared.entry.Entry.{Entry}
 use Rattle.fk_model.specs.declared.item.Item.{Item}
 use Rattle.fk_model.specs.Script.{IsOver, IsScript, greeting}
@@ -79,6 +80,16 @@ pub record IsBehindByPiece (taken : List ℕ) (history : List Entry) (written : 
 abbrev pub IsPrompt : List ℕ → List Entry → List ℕ → Type 0
 IsPrompt taken history written = (taken ≡ []) ⊎ IsBehindByPiece taken history written
 
+-- the bytes end in the middle of a line: the last of them is no line feed
+abbrev pub EndsMidLine : List ℕ → Type 0
+EndsMidLine bytes = slice_index bytes (length bytes - 1) ≢ line_feed
+
+-- Memory was wanted for something: not all was answered; or the client ended the talk, and the end was
+-- still to be read; or the bytes end in the middle of a line, and had to be held until its end comes.
+abbrev pub WantedMemory : List ℕ → List Item → List Entry → List ℕ → Type 0
+WantedMemory taken items history written =
+    ¬ IsAnswered items history written ⊎ (IsOver taken ⊎ EndsMidLine taken)
+
 -- more might have been taken, and nothing was to come, where that is told
 abbrev pub IsReadToEnd : Setting → List ℕ → Type 0
 IsReadToEnd new taken = (length taken < most_taken) × IsAtEnd new.input.left
@@ -98,11 +109,11 @@ HasEnded WriteFault new taken items history written =
 -- all was answered, and no more bytes may be read
 HasEnded Spent new taken items history written =
     IsAnswered items history written × ¬ IsOver taken × (length taken ≡ most_taken)
--- memory ran out at the lines of a piece that was read: the greeting and the replies were written up
--- to some byte
+-- memory ran out at the lines of a piece that was read, for something that was left to do: the greeting
+-- and the replies were written up to some byte
 HasEnded NoMemory new taken items history written =
     Begins written (output items (answers_in history)) × IsAnsweredSoFar items history written
-    × IsBehindByPiece taken history written
+    × IsBehindByPiece taken history written × WantedMemory taken items history written
 
 -- no read failed, and no write
 abbrev pub ReadsWell : Setting → Setting → Type 0

@@ -13,10 +13,11 @@ const USAGE: u8 = 2;
 /// Serves one connection over an input and an output, without waiting for anybody, and answers the
 /// exit status: 0 where the client ended the talk or the input ended, 2 where the words aren't the
 /// one word `pipe`, 3 where a read failed, 4 where a write failed, 7 where 2^62 bytes were taken
-/// and more would be read, and 8 where the lines of a piece found no memory. The client ends the
-/// talk by END, or by a line that is too long. Each line that asks for a turn has one made by the
-/// store, with a moment of the clock and a word of the dice, before its answer is written. The
-/// store can serve the next connection.
+/// and more would be read, and 8 where a piece found no memory: for a line that is to be answered
+/// or ends the talk, or for the bytes of one that goes on. The client ends the talk by END, or by a
+/// line that is too long. Each line that asks for a turn has one made by the store, with a moment of
+/// the clock and a word of the dice, before its answer is written. The store can serve the next
+/// connection.
 pub fn pipe<S: Source, K: Sink, C: Clock, J: Dice>(
     alloc: Global,
     words: &[&str],

@@ -115,7 +115,8 @@ fn answer_piece<K: Sink, C: Clock, J: Dice>(
     output: &mut K,
     store: &mut MemoryStore<C, J>,
 ) -> Result<(), Ended>
-    requires { session.old.taken + length piece.now ≤ TAKEN_MAX }
+    requires going { session.old.phase ≢ Phase.Over }
+    requires room { session.old.taken + length piece.now ≤ TAKEN_MAX }
     ensures ok { OnOk result (Answers
         (at_hand session.old.phase (session.old.lines ++ piece.now)
         (results (K.written output.old) store.old.server))

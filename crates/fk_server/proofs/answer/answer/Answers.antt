@@ -6,7 +6,7 @@ use Rattle.fk_server.proofs.answer.answer.Goals as goal
 pub returns-in_err-reply-in-Some-clause-err : goal.returns-in_err-reply-in-Some-clause-err
 returns-in_err-reply-in-Some-clause-err g c =
     let p = err_from_is_err_and c.from_residual.result c.from_residual.ensures.1 in
-    rw (p.1, p.2) (inl (starved_first _ _ refl c.in_err-reply-in-Some.ensures.err))
+    rw (p.1, p.2, c.in-Some.is) (inl (starved_first _ _ refl c.in_err-reply-in-Some.ensures.err))
 
 pub returns-in_ok-reply-in-Some-clause-ok : goal.returns-in_ok-reply-in-Some-clause-ok
 returns-in_ok-reply-in-Some-clause-ok g c =

@@ -11,7 +11,8 @@ lines-init g c = answers_nothing _
 pub returns-in_err-next-clause-err : goal.returns-in_err-next-clause-err
 returns-in_err-next-clause-err g c =
     let p = err_from_is_err_and c.from_residual.result c.from_residual.ensures.1 in
-    rw (p.1, p.2) (starved_between _ _ c.lines.invariant)
+    let going : c.lines.phase ≢ Over = search rules in
+    rw (p.1, p.2) (starved_between _ _ c.lines.invariant going c.in_err-next.ensures.wanted)
 
 pub returns-in_err-serve_line-in-Whole-clause-err : goal.returns-in_err-serve_line-in-Whole-clause-err
 returns-in_err-serve_line-in-Whole-clause-err g c =
@@ -19,7 +20,8 @@ returns-in_err-serve_line-in-Whole-clause-err g c =
     let p = err_from_is_err_and residual.result residual.ensures.1 in
     let first : IsFirstLine c.lines.lines c.in-Whole.line c.next.new.self = rw c.in-Whole.is at c.in_ok-next.ensures.ok in
     let stops = rw c.bytes.ensures at c.in_err-serve_line-in-Whole.ensures.err in
-    rw (p.1, p.2) (stops_at_line _ _ _ _ _ _ c.lines.invariant first stops)
+    let going : c.lines.phase ≢ Over = search rules in
+    rw (p.1, p.2) (stops_at_line _ _ _ _ _ _ c.lines.invariant first going stops)
 
 pub lines-preserved : goal.lines-preserved
 lines-preserved g c =

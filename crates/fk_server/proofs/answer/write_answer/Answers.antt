@@ -1,9 +1,8 @@
-use Rattle.std.proofs.Common.{[]}
 use Rattle.std.proofs.lemmas.Result.{err_from_is_err_and}
-use Rattle.fk_server.proofs.Writing.{starved_at_once}
+use Rattle.fk_server.proofs.Writing.{starved_at_reply}
 use Rattle.fk_server.proofs.answer.write_answer.Goals as goal
 
 pub returns-in_err-bytes-clause-err : goal.returns-in_err-bytes-clause-err
 returns-in_err-bytes-clause-err g c =
     let p = err_from_is_err_and c.from_residual.result c.from_residual.ensures.1 in
-    rw (p.1, p.2) (record { part = []; stops = starved_at_once _ _ })
+    rw (p.1, p.2) (starved_at_reply _ _)
