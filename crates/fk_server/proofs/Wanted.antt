@@ -16,7 +16,7 @@ use Rattle.fk_model.specs.declared.item.Phase.TheVariants.{Greeted, Accepted, Ov
 use Rattle.fk_model.specs.Advance.{Advances}
 use Rattle.fk_model.specs.Commands.{arguments, has_verb}
 use Rattle.fk_model.specs.Out.{asks_of, out, output}
-use Rattle.fk_model.specs.Script.{AreGiven, AreItemsFrom, AreItemsOf, Command, IsOver, ack, batch, command_of, end, fetch, handshake_items, hello, phase_after, push, unknown}
+use Rattle.fk_model.specs.Script.{AreGiven, AreItemsFrom, AreItemsOf, Command, ack, batch, command_of, end, fetch, handshake_items, hello, phase_after, push, unknown}
 use Rattle.fk_model.proofs.Advance.{by_line, joined, over_is}
 use Rattle.fk_model.proofs.Outs.{asks_of-append}
 use Rattle.fk_server.specs.Turning.{answers_in, asks_in}
