@@ -1,16 +1,15 @@
 -- A node one of whose sides was changed in its place, and whose height isn't set yet.
-use Rattle.std.proofs.Common.{◌≡◌, ℕ, ◌+◌, ◌^◌, ◌<◌, ◌≤◌, Bool, true, false, max, length, List, ◌∷◌, ◌++◌, refl, sym, ap, subst, ◌∙◌, arith, Box, Option, None, Some, inl, inr}
+use Rattle.std.proofs.Common.{◌≡◌, ℕ, ◌+◌, ◌^◌, ◌<◌, ◌≤◌, Bool, true, false, max, length, List, refl, arith, Box, Option, None, Some, inl, inr}
 use Rattle.std.proofs.lemmas.Bool.{cases_lt}
 use Rattle.std.specs.Prelude.{is_some, IfNone, IfSome}
 use Rattle.std.specs.declared.alloc.Global.{Global}
 use Rattle.fk_tree.specs.declared.side.Node.{Node}
-use Rattle.fk_tree.specs.Order.{comes_before, with_pair, without_pair, AreOthers}
-use Rattle.fk_tree.specs.Shape.{Shape, AreSides, IsFull, IsOver, pairs_over, height_over}
+use Rattle.fk_tree.specs.Order.{comes_before, with_pair, AreOthers}
+use Rattle.fk_tree.specs.Shape.{Shape, AreSides, IsFull, IsOver, pairs_over}
 use Rattle.fk_tree.specs.Side.{pair_of, pairs_of, height_of, IsBalanced, IsNear, IsAllowed}
 use Rattle.fk_tree.proofs.Halves.{low_height}
 use Rattle.fk_tree.proofs.Tops.{over_is}
 use Rattle.fk_tree.proofs.Puts.{IsPut, put_left, put_right, put_left_pairs, put_right_pairs}
-use Rattle.fk_tree.proofs.Takes.{IsTaken, take_left, take_right, take_left_pairs, take_right_pairs}
 
 -- a balanced side is full
 pub full_top : (top : Option (Box Node Global)) → IsBalanced top → IsFull (record { pairs = pairs_of top; height = height_of top })

@@ -1,4 +1,4 @@
-use Rattle.std.proofs.Common.{◌≡◌, ◌+◌, ◌<◌, ◌≤◌, ◌++◌, ◌^◌, length, length-append, arith}
+use Rattle.std.proofs.Common.{length-append, arith}
 use Rattle.fk_tree.proofs.Halves.{low_height}
 use Rattle.fk_tree.proofs.Takes.{next_between}
 use Rattle.fk_tree.proofs.taking.joined.Goals as goal

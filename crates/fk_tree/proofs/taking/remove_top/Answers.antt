@@ -1,5 +1,4 @@
-use Rattle.std.proofs.Common.{ℕ, Bool, false, not, ◌==◌, ◌≡◌, ◌+◌, ◌++◌, ◌∙◌, max, refl, ap, sym, subst, arith}
-use Rattle.std.proofs.lemmas.Bool.Decides.{nat_tests}
+use Rattle.std.proofs.Common.{◌∙◌, ap, sym, subst, arith}
 use Rattle.fk_tree.specs.Side.{pairs_of, height_of, sides_of, IsBalanced}
 use Rattle.fk_tree.proofs.taking.remove_top.Goals as goal
 

@@ -1,4 +1,4 @@
-use Rattle.std.proofs.Common.{refl, ◌≡◌, ◌+◌, ◌<◌, ◌^◌, ◌∙◌, ap, length, arith, rules}
+use Rattle.std.proofs.Common.{refl, ◌+◌, ◌<◌, ◌^◌, ◌∙◌, ap, length, arith, rules}
 use Rattle.fk_tree.specs.declared.side.Node.{Node}
 use Rattle.fk_tree.specs.Order.{AreOthers}
 use Rattle.fk_tree.specs.Side.{pair_of}

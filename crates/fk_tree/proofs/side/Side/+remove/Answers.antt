@@ -1,7 +1,7 @@
-use Rattle.std.proofs.Common.{refl, ◌≡◌, ◌+◌, ◌<◌, ◌^◌, ◌∙◌, ap, subst, length, arith, rules}
+use Rattle.std.proofs.Common.{refl, ◌<◌, ◌^◌, ◌∙◌, ap, subst, length, arith, rules}
 use Rattle.std.specs.Prelude.{IsSome}
 use Rattle.fk_tree.specs.declared.side.Node.{Node}
-use Rattle.fk_tree.specs.Side.{pair_of, IsBalanced}
+use Rattle.fk_tree.specs.Side.{IsBalanced}
 use Rattle.fk_tree.proofs.Tops.{top_is, top_now, top_told, height_is, shorter_right, shorter_both}
 use Rattle.fk_tree.proofs.Takes.{take_left, take_right, take_left_pairs, take_right_pairs, told_left, told_right, there_middle, take_middle}
 use Rattle.fk_tree.proofs.Settled.{lowered_left, lowered_right, full_top}

@@ -1,4 +1,4 @@
-use Rattle.std.proofs.Common.{refl, ◌≡◌, ◌∷◌, ◌+◌, ◌<◌, ◌^◌, ◌∙◌, ap, sym, subst, arith, ℕ, List, Box}
+use Rattle.std.proofs.Common.{refl, ◌≡◌, ◌∷◌, ◌∙◌, ap, sym, subst, arith, ℕ, List, Box}
 use Rattle.std.proofs.lemmas.Option.{IfSome_then}
 use Rattle.std.specs.declared.alloc.Global.{Global}
 use Rattle.fk_tree.specs.declared.side.Node.{Node}
