@@ -30,6 +30,18 @@ impl Key {
         ensures step { steps.new ≡ steps.old + 1 }
     {
         steps.add();
-        moment.cmp(&self.moment).then(ticket.cmp(&self.ticket))
+        if moment < self.moment {
+            return Ordering::Less;
+        }
+        if self.moment < moment {
+            return Ordering::Greater;
+        }
+        if ticket < self.ticket {
+            return Ordering::Less;
+        }
+        if self.ticket < ticket {
+            return Ordering::Greater;
+        }
+        Ordering::Equal
     }
 }

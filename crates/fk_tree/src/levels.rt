@@ -5,6 +5,7 @@ use crate::side::{Node, Side};
 
 /// Sets the height of a node right where one of its sides moved by a level, and tells whether it is
 /// another than before. Where the heights of its sides came to differ by two, nodes are turned.
+#[inline]
 pub(crate) fn settle(top: &mut Option<Box<Node>>, before: u8, moved: bool) -> bool
     requires before { before ≡ height_of top.old }
     requires near { IsNear top.old }
