@@ -5,11 +5,11 @@ ghost use Rattle.fk_io.specs.declared.fault.Ended.TheVariants.{NoMemory};
 use std::alloc::AllocError;
 
 /// A call to the outside failed. The object that was called has counted it.
-#[derive(Clone, Copy, PartialEq, Eq)]
+#[derive(Clone, Copy, Debug, PartialEq, Eq)]
 pub struct Failed;
 
 /// How a session on one connection ended.
-#[derive(Clone, Copy, PartialEq, Eq)]
+#[derive(Clone, Copy, Debug, PartialEq, Eq)]
 pub enum Ended {
     /// The talk was over, or the input was read to its end, and every reply was written.
     Closed,

@@ -1,5 +1,5 @@
 -- The kept state is brought up to a moment: the dead whose time is over leave, the rows whose reservation has
--- ended meet their fate, and then those that are due are put into their queues.
+-- run out meet their fate, and then those that are due are put into their queues.
 use Rattle.std.specs.Prelude.{ℕ, ◌+◌, List, ◌++◌, Option, None, Some, map, fold}
 use Rattle.std.specs.List.{enumerate_from}
 use Rattle.fk_model.specs.declared.row.Row.{Row}
@@ -34,7 +34,7 @@ enqueued moment kept filed =
     }
 
 -- The kept state brought up to a moment. The three lists are those of the state before the first step, so no
--- row is in two of them: one that has just failed waits for a later turn.
+-- row is in two of them: one that has just failed and is to be tried again waits for a later turn.
 abbrev pub brought_up : KeptState → ℕ → ℕ → KeptState
 brought_up kept moment word =
     fold (enqueued moment)

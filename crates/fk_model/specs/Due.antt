@@ -43,7 +43,7 @@ rows_of rows pairs = filter_map (λ pair. filed_at rows (ticket_in pair)) pairs
 abbrev pub over : KeptState → ℕ → List (ℕ × Row)
 over kept moment = rows_of kept.rows (up_to moment (timed target.Dead kept.rows))
 
--- the rows that workers have and whose reservation has ended, by ticket
+-- the rows that workers have and whose reservation has run out, by ticket
 abbrev pub expired : KeptState → ℕ → List (ℕ × Row)
 expired kept moment =
     filter (λ filed. has_come moment (leased_until (row_of filed).place)) kept.rows
@@ -54,7 +54,7 @@ waits_until (Scheduled at) = Some at
 waits_until (Retry at) = Some at
 waits_until elsewhere = None
 
--- the rows of both sets that are put into their queues, by moment and ticket
+-- the scheduled rows and those to be tried again whose moment has come, both sets together by moment and ticket
 abbrev pub due : KeptState → ℕ → List (ℕ × Row)
 due kept moment =
     rows_of kept.rows

@@ -19,7 +19,7 @@ pub record Reason : Type 0 where
   pub message : List ℕ
   pub backtrace : List (List ℕ)
 
--- why a job failed whose reservation has ended
+-- why a job failed whose reservation has run out
 abbrev pub expiry : Reason
 expiry = record {
   errtype = codes "ReservationExpired";
@@ -27,7 +27,7 @@ expiry = record {
   backtrace = [];
 }
 
--- how often the job failed before
+-- how often the job failed before, up to 2^64 - 1
 abbrev pub failures_before : Stamp → ℕ
 failures_before stamp = option_map_or (λ failure. raised failure.count) stamp.failure 0
 
@@ -77,7 +77,7 @@ abbrev pub with_outcome : List (ℕ × Row) → ℕ → Option Row → List (ℕ
 with_outcome rows ticket None = without_row rows ticket
 with_outcome rows ticket (Some row) = with_row rows ticket row
 
--- a row has met its fate, and both counts have risen
+-- a row has met its fate, and both counts have risen, up to 2^64 - 1
 abbrev pub failed : Reason → ℕ → ℕ → KeptState → ℕ × Row → KeptState
 failed reason moment word kept filed =
     record kept {

@@ -14,7 +14,8 @@ use Rattle.fk_model.specs.Said.{Effect, ok, only_said, kept_and_said}
 abbrev pub unknown_job : Reply
 unknown_job = Error (codes "ERR Unknown job")
 
--- a job failed: of the rows of that jid that workers have, the one of the least ticket meets its fate
+-- a job failed: of the rows of that jid that workers have, the one of the least ticket meets its fate; where
+-- there is none, that is said, and nothing changes
 abbrev pub fail_effect : State → List ℕ → Reason → ℕ → ℕ → Effect
 fail_effect state jid reason moment word =
     option_map_or (λ filed. kept_and_said state (failed reason moment word state.kept filed) ok)

@@ -1,5 +1,5 @@
--- What becomes of a job that failed, by Faktory's retry schedule: it is tried again, later each time, and is
--- dead once its tries are used up.
+-- What becomes of a job that failed, by this server's schedule: it is forgotten, or tried again at a later
+-- moment, or dead, as it is once its tries are used up.
 use Rattle.std.specs.Prelude.{ℕ, zero, ◌+◌, ◌*◌, ◌%◌, ◌^◌, min, nat_lt, if◌then◌else◌, ℤ, pos, negsuc}
 use Rattle.fk_time.specs.Moments.{day_length}
 use Rattle.fk_model.specs.declared.fate.Fate.{Fate}
@@ -14,8 +14,8 @@ dead_for = 180 * day_length
 abbrev pub most_counted : ℕ
 most_counted = 1000
 
--- the part of a delay that is left to chance, from 0 to 29: so jobs that failed together don't all come back
--- together
+-- what is left to chance, from 0 to 29: for each failure so far a delay has so many seconds more, so that jobs
+-- that failed together don't all come back together
 abbrev pub chance : ℕ → ℕ → ℕ
 chance word ticket = (word + ticket) % 30
 

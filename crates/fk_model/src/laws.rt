@@ -84,8 +84,8 @@ pub fn bringing_up_to_date_keeps_what_holds_between_turns()
 {}
 
 /// The moves by which a kept state is brought up to a moment make of it the one that is up to date, the
-/// numbers last, and there is none exactly where it stays. Where its next number stays within the
-/// greatest, each of them fits.
+/// numbers last, and there is none exactly where it stays. Below the greatest moment, and where its next
+/// number stays within the greatest, each of them fits.
 pub fn the_moves_lead_to_what_is_up_to_date()
     ensures come { (kept : KeptState) (moment word : ℕ) → IsWellKept kept
         → brought_up kept moment word
@@ -99,7 +99,8 @@ pub fn the_moves_lead_to_what_is_up_to_date()
 {}
 
 /// The moves of a FAIL make of the kept state the one that it leaves, and there is none exactly where that
-/// stays. Where its words can be written, each of them fits.
+/// stays. Below the greatest moment, and where its words can be written and the next number is within the
+/// greatest, each of them fits.
 pub fn the_moves_of_a_fail_lead_to_its_state()
     ensures come { (s : State) (jid : List ℕ) (reason : Reason) (moment word : ℕ) → IsBetweenTurns s
         → (fail_effect s jid reason moment word).state.kept

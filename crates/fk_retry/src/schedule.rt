@@ -15,7 +15,8 @@ const DEAD_FOR: u64 = 15_552_000_000;
 const MOST_COUNTED: u64 = 1000;
 
 /// What becomes of a job that failed at a moment, in milliseconds since 1970-01-01T00:00:00Z: it is to be
-/// tried `retry` times, and never with -1, its failures before this one are `count`, `ticket` names its row,
+/// tried again `retry` times, where 0 forgets it and -1 has it dead at once, its failures before this one are
+/// `count`, `ticket` names its row,
 /// and `word` is the turn's random word.
 pub fn failed(retry: i64, count: u64, ticket: u64, word: u64, moment: u64) -> Fate
     ensures { result ≡ fate retry count ticket word moment }
@@ -46,7 +47,7 @@ fn delay(count: u64, chance: u64) -> u64
     count.pow(4) + 15 + chance * (count + 1)
 }
 
-/// The part of a delay that is left to chance, from 0 to 29.
+/// What is left to chance, from 0 to 29: a delay has so many seconds more for each failure so far.
 fn chance(word: u64, ticket: u64) -> u64
     ensures exact { result ≡ chance word ticket }
     ensures small { result < 30 }

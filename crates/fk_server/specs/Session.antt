@@ -84,8 +84,8 @@ IsPrompt taken history written = (taken ≡ []) ⊎ IsBehindByPiece taken histor
 abbrev pub EndsMidLine : List ℕ → Type 0
 EndsMidLine bytes = slice_index bytes (length bytes - 1) ≢ line_feed
 
--- Memory was wanted for something: not all was answered; or the client ended the talk, and the end was
--- still to be read; or the bytes end in the middle of a line, and had to be held until its end comes.
+-- Something was left for which memory may have been wanted: not all was answered; or the talk is over, and
+-- its last line may have been still to be read; or the bytes end in the middle of a line.
 abbrev pub WantedMemory : List ℕ → List Item → List Entry → List ℕ → Type 0
 WantedMemory taken items history written =
     ¬ IsAnswered items history written ⊎ (IsOver taken ⊎ EndsMidLine taken)
