@@ -1,15 +1,12 @@
 -- Pairs counted: turned, put among others, taken out, and kept by a test.
-use Rattle.std.proofs.Common.{◌≡◌, ◌&&◌, ◌∙◌, ℕ, ◌+◌, ◌≤◌, Bool, true, false, not, cond, List, []}
+use Rattle.std.proofs.Common.{◌≡◌, ◌≢◌, ◌&&◌, ◌∙◌, ℕ, ◌+◌, ◌≤◌, Bool, true, false, not, cond, List, []}
 use Rattle.std.proofs.Common.{◌∷◌, ◌++◌, filter, length, map, refl, sym, ap, subst, arith}
-use Rattle.std.specs.Prelude.{Contains, IsTrue, ◌↔◌, count_by, sum_by}
+use Rattle.std.specs.Prelude.{count_by, sum_by}
 use Rattle.std.specs.List.{AllByRecursion}
 use Rattle.std.proofs.lemmas.Bool.Decides.{nat_tests}
-use Rattle.std.proofs.lemmas.List.Elements.{Contains-append_right}
 use Rattle.std.proofs.lemmas.List.Filters.{sum_by-filter_both}
 use Rattle.std.proofs.lemmas.List.Sums.{sum_by-append, sum_by-cons}
 use Rattle.fk_tree.specs.Order.{comes_before, with_pair, without_pair, AreOthers, IsRising}
-use Rattle.fk_tree.proofs.Around.{rising_with}
-use Rattle.fk_tree.proofs.Rising.{rising_filter}
 use Rattle.fk_leases.specs.Ends.{is_pair, HaveSame, IsAmong}
 
 abbrev pub one_if : Bool → ℕ
@@ -136,39 +133,20 @@ count_without test pair (other ∷ pairs) =
         let first = count_first test other pairs in
         let left = count_first test other (without_pair pair pairs) in omega (arith, first, left, rest)
 
--- a pair that isn't among them is counted never
-pub never : (pair : ℕ × ℕ) (pairs : List (ℕ × ℕ)) → (Contains pairs pair → ⊥) → count_by (is_pair pair) pairs ≡ 0
-never pair [] absent = refl
-never pair (other ∷ pairs) absent =
-    by (is_pair pair other) refl (never pair pairs (λ held. absent (Contains-append_right (other ∷ []) pairs pair held)))
+-- pairs among which a pair is counted never are others
+pub are_others : (pair : ℕ × ℕ) (pairs : List (ℕ × ℕ)) → count_by (is_pair pair) pairs ≡ 0 → AreOthers pair pairs
+are_others pair [] none = tt
+are_others pair (other ∷ pairs) none =
+    let first = count_first (is_pair pair) other pairs in
+    (differs (is_pair pair other) refl first, are_others pair pairs (omega (arith, none, first)))
   where
-    by : (here : Bool) → is_pair pair other ≡ here → count_by (is_pair pair) pairs ≡ 0
-        → count_by (is_pair pair) (other ∷ pairs) ≡ 0
-    by true same rest = absurd (absent (0, omega arith, same_pair pair other same))
-    by false same rest =
-        let first = count_first (is_pair pair) other pairs in
-        let is = ap one_if same in omega (arith, first, is, rest)
+    differs : (here : Bool) → is_pair pair other ≡ here
+        → count_by (is_pair pair) (other ∷ pairs) ≡ one_if (is_pair pair other) + count_by (is_pair pair) pairs
+        → other ≢ pair
+    differs true same first = let one = ap one_if same in absurd (omega (arith, none, first, one))
+    differs false other_one first = λ equal. absurd (cc (ap (is_pair pair) equal, itself pair, other_one))
 
 -- ---- what a call leaves
-
--- a pair put beside those that aren't it
-pub entered : (pair : ℕ × ℕ) (before between after : List (ℕ × ℕ)) (there : Bool)
-    → (IsTrue there ↔ Contains before pair) → between ≡ without_pair pair before → after ≡ with_pair pair between
-    → there ≡ false → HaveSame after (pair ∷ before)
-entered pair before between after there tells left put isnt test =
-    let none = never pair before (λ held. cc (isnt, tells.1 held)) in
-    let added = count_with pair between test in
-    let one = count_first test pair between in
-    let two = count_first test pair before in
-    let same : count_by test before ≡ count_by test between =
-    count_without test pair before ∙ by (test pair) none ∙ ap (count_by test) (sym left) in
-    ap (count_by test) put ∙ omega (arith, added, one, two, same)
-  where
-    by : (passes : Bool) → count_by (is_pair pair) before ≡ 0
-        → cond passes (count_by (is_pair pair) before) 0 + count_by test (without_pair pair before)
-        ≡ count_by test (without_pair pair before)
-    by true none = omega (arith, none)
-    by false none = omega arith
 
 -- a pair taken out from among others
 pub has_left : (pair : ℕ × ℕ) (before after : List (ℕ × ℕ)) → IsRising before → after ≡ without_pair pair before
@@ -193,19 +171,3 @@ has_left pair before after rising left among test =
         let one = ap one_if passes in
         let taken = ap (λ here. cond here (count_by (is_pair pair) before) 0) passes in
         omega (arith, one, first, rest, whole, taken)
-
--- those that are left aren't it
-pub are_others : (pair : ℕ × ℕ) (pairs : List (ℕ × ℕ)) → AreOthers pair (without_pair pair pairs)
-are_others pair [] = tt
-are_others pair (other ∷ pairs) = by (is_pair pair other) refl (are_others pair pairs)
-  where
-    by : (here : Bool) → is_pair pair other ≡ here → AreOthers pair (without_pair pair pairs)
-        → AreOthers pair (cond (not here) (other ∷ without_pair pair pairs) (without_pair pair pairs))
-    by true same rest = rest
-    by false same rest = ((λ equal. absurd (cc (ap (is_pair pair) equal, itself pair, same))), rest)
-
-pub rising_entered : (pair : ℕ × ℕ) (before between after : List (ℕ × ℕ)) → IsRising before
-    → between ≡ without_pair pair before → after ≡ with_pair pair between → IsRising after
-rising_entered pair before between after rising left put =
-    rw (put, left)
-    (rising_with pair (without_pair pair before) (rising_filter _ before rising) (are_others pair before))

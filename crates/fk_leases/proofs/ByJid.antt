@@ -7,19 +7,22 @@ use Rattle.std.specs.List.{AllByRecursion, IsDistinct, insert, remove}
 use Rattle.std.specs.Map.{keys_of, lookup, remove_entry, values_of}
 use Rattle.std.specs.Ordering.{nat_cmp}
 use Rattle.std.specs.declared.cmp.Ordering.TheVariants as ordering
+use Rattle.std.proofs.lemmas.Bool.Decides.{nat_tests}
 use Rattle.std.proofs.lemmas.List.{map-append}
 use Rattle.std.proofs.lemmas.List.Sums.{sum_by-append, sum_by-cons, sum_by-insert, sum_by-remove}
 use Rattle.std.proofs.lemmas.Map.{lookup-remove_entry}
 use Rattle.std.proofs.lemmas.Map.Entries.{sum_by-remove_entry}
 use Rattle.std.proofs.lemmas.Map.Made.{IsDistinct-from_AllPairs}
 use Rattle.std.proofs.lemmas.Map.Text.{is_eq-slice_cmp}
-use Rattle.std.proofs.lemmas.List.Elements.{All-map}
+use Rattle.std.proofs.lemmas.List.Elements.{All-map, recursion_from_All}
 use Rattle.std.proofs.lemmas.List.Kept.{AllPairs-cons}
 use Rattle.std.proofs.lemmas.Slice.Eq.{bytes_eq-Decides}
 use Rattle.fk_model.proofs.Sorting.{head_of_all, tail_of_all}
 use Rattle.fk_lists.specs.Room.{Named, list_at, all_pairs, AreNamed}
-use Rattle.fk_leases.specs.Ends.{end_of, ends_of, HaveSame}
-use Rattle.fk_leases.proofs.Alike.{count_map, count_first, one_if}
+use Rattle.fk_tree.specs.Order.{AreOthers}
+use Rattle.fk_leases.specs.Leases.{leased_ticket, IsUnleased}
+use Rattle.fk_leases.specs.Ends.{end_of, ends_of, is_pair, HaveSame}
+use Rattle.fk_leases.proofs.Alike.{are_others, count_map, count_first, one_if}
 
 -- ---- each jid stands there once
 
@@ -163,6 +166,14 @@ module _ (test : ℕ × ℕ → Bool) where
           let now = ap weight (at_removed entry.0 jid others apart) in
           omega (arith, now, by jid (bytes_eq entry.0 jid) refl)
 
+  -- where no jid has one that passes, none of all passes
+  none_of_all : (items : Named) → AreNamed items → ((jid : List ℕ) → weight (list_at items jid) ≡ 0)
+      → count_by test (ends_of items) ≡ 0
+  unfolding IsDistinct
+  none_of_all items named none =
+      let less = no_more items [] (distinct items named) tt (λ jid. omega (arith, none jid)) in
+      omega (arith, less, all_is items)
+
   -- the lists of all jids but one are as before
   pub changed : (jid : List ℕ) (before after : Named) → AreNamed before → AreNamed after
       → ((other : List ℕ) → other ≢ jid → list_at after other ≡ list_at before other)
@@ -187,6 +198,27 @@ module _ (test : ℕ × ℕ → Bool) where
       alike other =
           at_removed jid other after (distinct after is) ∙ by other (bytes_eq jid other) refl
           ∙ sym (at_removed jid other before (distinct before was))
+
+-- ---- the end of a ticket that has no lease
+
+no_end : (until ticket : ℕ) (leases : List (ℕ × ℕ)) → AllByRecursion (λ lease. leased_ticket lease ≢ ticket) leases
+    → count_by (is_pair (until, ticket)) (map end_of leases) ≡ 0
+no_end until ticket [] absent = refl
+no_end until ticket (lease ∷ leases) absent =
+    let first = count_first (is_pair (until, ticket)) (end_of lease) (map end_of leases) in
+    let no = ap one_if (other_end lease absent.0) in
+    omega (arith, first, no, no_end until ticket leases absent.1)
+  where
+    other_end : (lease : ℕ × ℕ) → leased_ticket lease ≢ ticket → is_pair (until, ticket) (end_of lease) ≡ false
+    other_end lease differs = grind (arith, nat_tests, differs)
+
+pub no_end_there : (until ticket : ℕ) (ends : List (ℕ × ℕ)) (leases : Named) → AreNamed leases
+    → IsUnleased ticket leases → HaveSame ends (ends_of leases) → AreOthers (until, ticket) ends
+no_end_there until ticket ends leases named unleased same =
+    are_others (until, ticket) ends
+    (same (is_pair (until, ticket))
+    ∙ none_of_all (is_pair (until, ticket)) leases named
+    (λ jid. no_end until ticket (list_at leases jid) (recursion_from_All _ (list_at leases jid) (unleased jid))))
 
 -- ---- one lease more, one less
 

@@ -1,5 +1,5 @@
 -- What ends when: beside the leases by jid, each lease by the moment until which it runs.
-use Rattle.std.specs.Prelude.{ℕ, ◌≡◌, ◌==◌, ◌&&◌, ◌<◌, ◌≤◌, Bool, false, List, map, bytes_eq, count_by, sum_by}
+use Rattle.std.specs.Prelude.{ℕ, ◌≡◌, ◌==◌, ◌&&◌, ◌<◌, ◌≤◌, Bool, List, map, bytes_eq, count_by, sum_by}
 use Rattle.std.specs.List.{IsDistinct}
 use Rattle.fk_tree.specs.Order.{IsRising}
 use Rattle.fk_tree.specs.Room as tree
@@ -31,12 +31,12 @@ abbrev pub HaveRoom : Spares → ℕ → Type 0
 HaveRoom spares room =
     (jids : List (List ℕ)) → IsDistinct bytes_eq jids → sum_by (spare_at spares) jids ≤ room
 
--- what holds of the leases by jid and of those by moment: they are the same leases, unless two jids may
--- share an end, and both have room for all that may be put
-pub record IsSound (leases : Room) (ends : tree.Room) (rooms : ℕ) (shared : Bool) : Type 0 where
+-- what holds of the leases by jid and of those by moment: they are the same leases, and both have room for
+-- all that may be put
+pub record IsSound (leases : Room) (ends : tree.Room) (rooms : ℕ) : Type 0 where
   pub by_ticket : AreByTicket leases.items
   pub named : AreNamed leases.items
   pub rising : IsRising ends.items
-  pub same : shared ≡ false → HaveSame ends.items (ends_of leases.items)
+  pub same : HaveSame ends.items (ends_of leases.items)
   pub room : HaveRoom leases.spares rooms
   pub spare : rooms ≤ ends.spare

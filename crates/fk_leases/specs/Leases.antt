@@ -22,6 +22,10 @@ AreByTicket leases = (jid : List ℕ) → IsStrictlyIncreasing (map leased_ticke
 abbrev pub IsAbsent : ℕ → List (ℕ × ℕ) → Type 0
 IsAbsent ticket leases = All (λ lease. leased_ticket lease ≢ ticket) leases
 
+-- no lease of any jid is of this ticket
+abbrev pub IsUnleased : ℕ → Named → Type 0
+IsUnleased ticket leases = (jid : List ℕ) → IsAbsent ticket (list_at leases jid)
+
 -- without the lease of this ticket until this moment
 abbrev pub without_lease : ℕ → ℕ → List (ℕ × ℕ) → List (ℕ × ℕ)
 without_lease ticket until leases =

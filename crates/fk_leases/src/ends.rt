@@ -1,25 +1,23 @@
 // The ends of leases in a tree: pairs of the moment until which a lease runs and its ticket.
-ghost use Rattle.std.specs.Prelude.{◌≡◌, ◌∷◌, ◌+◌, ◌<◌, false, length, map, option_map, slice_get, IfOk, Some};
+ghost use Rattle.std.specs.Prelude.{◌≡◌, ◌∷◌, ◌+◌, ◌<◌, length, map, option_map, slice_get, IfOk, Some};
 ghost use Rattle.fk_model.specs.Orders.{in_order, number_in};
-ghost use Rattle.fk_tree.specs.Order.{IsRising};
+ghost use Rattle.fk_tree.specs.Order.{AreOthers, IsRising};
 ghost use Rattle.fk_leases.specs.Ends.{end_of, HaveSame, IsAmong};
 
 use fk_json::Pairs;
 use fk_tree::Tree;
 use std::alloc::{AllocError, Global};
 
-/// Puts an end, and tells whether ends are shared from then on: they were, or this one was there.
-pub(crate) fn enter(ends: &mut Tree, until: u64, ticket: u64, shared: bool) -> bool
+/// Puts an end that isn't there.
+pub(crate) fn enter(ends: &mut Tree, until: u64, ticket: u64)
     requires room { 0 < ends.old.spare }
+    requires absent { AreOthers (until, ticket) ends.old.items }
     requires rising { IsRising ends.old.items }
-    ensures shared { result ≡ false → shared ≡ false }
-    ensures same { result ≡ false → HaveSame ends.new.items ((until, ticket) ∷ ends.old.items) }
+    ensures same { HaveSame ends.new.items ((until, ticket) ∷ ends.old.items) }
     ensures rising { IsRising ends.new.items }
     ensures spare { ends.new.spare + 1 ≡ ends.old.spare }
 {
-    let there = ends.take(until, ticket);
     ends.put(until, ticket);
-    shared || there
 }
 
 /// Takes an end out.

@@ -2,7 +2,7 @@ ghost use Rattle.std.specs.Prelude.{◌≡◌, ◌↔◌, ◌++◌, ◌^◌, ◌
 ghost use Rattle.std.specs.List.{remove};
 ghost use Rattle.fk_model.specs.Orders.{with_pair};
 ghost use Rattle.fk_lists.specs.Room.{all_pairs, list_at, no_lists, spare_at, AreNamed, IsLean, OthersStay};
-ghost use Rattle.fk_leases.specs.Leases.{first_until, leased_ticket, until_in, run_out, without_lease, AreByTicket, IsAbsent};
+ghost use Rattle.fk_leases.specs.Leases.{first_until, leased_ticket, until_in, run_out, without_lease, AreByTicket, IsUnleased};
 
 use crate::ends::{enter, first_moment, leases_of, leave};
 use fk_json::{Pairs, Text};
@@ -15,9 +15,8 @@ use std::marker::Model;
 /// milliseconds since 1970-01-01T00:00:00Z, by ticket; and for each jid the number of leases that may
 /// be put without taking memory.
 ///
-/// Beside the lists stands a tree of the ends of all leases. It has each end once: where leases of two
-/// jids share a ticket and a moment, which rows never do, the lists are gone through until all leases
-/// are taken out together.
+/// A ticket has one lease at most, of all jids. Beside the lists stands a tree of the ends of all
+/// leases, in order of moment.
 #[derive(Drop)]
 pub struct Leases {
     pub(crate) alloc: Global,
@@ -25,8 +24,6 @@ pub struct Leases {
     pub(crate) ends: Tree,
     // The number of leases that may be put, of all jids.
     pub(crate) room: usize,
-    // Whether two jids may share an end.
-    pub(crate) shared: bool,
 }
 
 impl Model for Leases {
@@ -38,7 +35,7 @@ impl Model for Leases {
     ghost view = { λ leases. leases.lists };
 
     ghost invariant = { λ leases.
-        IsSound leases.lists leases.ends leases.room leases.shared };
+        IsSound leases.lists leases.ends leases.room };
 }
 
 impl Leases {
@@ -53,14 +50,13 @@ impl Leases {
             lists,
             ends,
             room: 0,
-            shared: false,
         }
     }
 
-    /// Puts a lease of a ticket that has none under this jid.
+    /// Puts a lease of a ticket that has none, under this jid or another.
     pub fn put(&mut self, jid: &Text, ticket: u64, until: u64)
         requires room { 0 < spare_at self.old.spares jid.now }
-        requires absent { IsAbsent ticket (list_at self.old.items jid.now) }
+        requires absent { IsUnleased ticket self.old.items }
         ensures here { list_at self.new.items jid.now
             ≡ with_pair (ticket, until) (list_at self.old.items jid.now) }
         ensures others { OthersStay jid.now self.old self.new }
@@ -71,7 +67,7 @@ impl Leases {
             Err(at) => {
                 self.lists.insert(jid, at, (ticket, until));
                 self.room -= 1;
-                self.shared = enter(&mut self.ends, until, ticket, self.shared);
+                enter(&mut self.ends, until, ticket);
             }
         }
     }
@@ -133,9 +129,6 @@ impl Leases {
         ensures until { result ≡ first_until self.now.items }
         ensures named { AreNamed self.now.items }
     {
-        if self.shared {
-            return self.lists.least();
-        }
         first_moment(&self.ends)
     }
 
@@ -147,9 +140,6 @@ impl Leases {
         ensures err { OnErr result (out.new.items ≡ out.old.items) }
         ensures named { AreNamed self.now.items }
     {
-        if self.shared {
-            return self.lists.up_to(moment, out);
-        }
         let mut ended = Pairs::new(self.alloc);
         self.ends.until(moment, &mut ended)?;
         out.extend(&leases_of(self.alloc, &ended)?)
@@ -160,9 +150,6 @@ impl Leases {
         ensures count { result ≡ min (length (all_pairs self.now.items)) (2 ^ 64 - 1) }
         ensures named { AreNamed self.now.items }
     {
-        if self.shared {
-            return self.lists.count();
-        }
         self.ends.count()
     }
 }

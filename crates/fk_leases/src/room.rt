@@ -37,6 +37,5 @@ impl RoomByName for Leases {
     fn clear(&mut self) {
         self.lists.clear();
         self.ends.clear();
-        self.shared = false;
     }
 }

@@ -4,4 +4,4 @@ use Rattle.fk_leases.proofs.leases.Leases.count.Goals as goal
 pub returns-clause-count : goal.returns-clause-count
 returns-clause-count c =
     rw (← c.self.view_is)
-    (counted _ _ c.self.inside.lists.items (c.self.invariant.same c.if-self.false) c.count-2.ensures c.count-2.type_inv)
+    (counted _ _ c.self.inside.lists.items c.self.invariant.same c.count.ensures c.count.type_inv)

@@ -5,4 +5,4 @@ use Rattle.fk_leases.proofs.leases.Leases.first.Goals as goal
 pub returns-clause-until : goal.returns-clause-until
 returns-clause-until c =
     rw (← c.self.view_is)
-    (c.first_moment.ensures ∙ first_end _ c.self.inside.lists.items c.self.invariant.rising (c.self.invariant.same c.if-self.false))
+    (c.first_moment.ensures ∙ first_end _ c.self.inside.lists.items c.self.invariant.rising c.self.invariant.same)

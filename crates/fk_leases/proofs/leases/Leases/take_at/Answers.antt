@@ -1,4 +1,4 @@
-use Rattle.std.proofs.Common.{Some, ◌∙◌, ℕ, ap, refl, sym, arith}
+use Rattle.std.proofs.Common.{Some, ◌∙◌, ℕ, ap, sym, arith}
 use Rattle.fk_lists.proofs.Renewed.{rising_without}
 use Rattle.fk_leases.proofs.ByJid.{one_less}
 use Rattle.fk_leases.proofs.Rooms.{kept_room}
@@ -10,7 +10,7 @@ invariant_of-self c =
     let sound = c.self.invariant in
     let stands = sym c.in-Some.ensures ∙ ap (λ (until : ℕ). Some (c.in-Some.ticket, until)) c.if-ends-until.true in
     sound_without c.self.inside.lists c.remove.new.self c.self.inside.ends c.leave.new.ends c.self.inside.room
-    c.self.inside.room c.self.inside.shared c.self.inside.shared sound
+    c.self.inside.room sound
     (kept_room c.args.jid.now _ _ c.remove.ensures.others.spares _ (omega (arith, c.remove.ensures.kept)) sound.room)
     (omega (arith, c.leave.ensures.spare, sound.spare)) (c.in-Some.ticket, c.args.until)
     (rising_without c.args.jid.now c.args.at c.self.inside.lists.items c.remove.new.self.items sound.by_ticket
@@ -18,4 +18,4 @@ invariant_of-self c =
     c.remove.ensures.named c.leave.ensures.rising
     (one_less c.args.jid.now (c.in-Some.ticket, c.args.until) c.args.at _ _ sound.named c.remove.ensures.named stands
     c.remove.ensures.here c.remove.ensures.others.items)
-    refl c.leave.ensures.same
+    c.leave.ensures.same
