@@ -16,7 +16,6 @@ use Rattle.fk_model.proofs.Counted.{one_if, count_with}
 use Rattle.fk_model.proofs.Queues.{queue_appends, queue_stays}
 use Rattle.fk_model.proofs.Fitting.{IsLast, rising_new}
 use Rattle.fk_lists.specs.Room.{list_at, spare_at}
-use Rattle.fk_leases.specs.Leases.{leased_ticket, IsAbsent}
 use Rattle.fk_core.specs.Reserved.{waits_in, is_leased_under}
 use Rattle.fk_core.specs.Index.{Index, MayEnter, Entered, waiting_pair, lease_pair}
 use Rattle.fk_core.specs.Tied.{IsNotBelow, AreTied}
@@ -40,12 +39,6 @@ none_there rows ticket by_ticket none =
     (λ filed other same. absurd (grind (arith, nat_tests, other, same))) (without_row rows ticket)
     (filter_passes (λ filed. not (ticket_of filed == ticket)) rows))
 
-absent_pair : (ticket : ℕ) (given : Option ℕ) (pairs : List (ℕ × ℕ)) → IsAbsent ticket pairs
-    → IfSome (option_map (λ until. (ticket, until)) given)
-    (λ (pair : ℕ × ℕ). All (λ lease. leased_ticket lease ≢ ticket) pairs)
-absent_pair ticket None pairs absent = tt
-absent_pair ticket (Some until) pairs absent = absent
-
 -- what lets a row enter: its ticket has none, its rank is last in its queue, and there is room
 pub record MayCome (rows : List (ℕ × Row)) (index : Index) (ticket : ℕ) (row : Row) : Type 0 where
   pub absent : row_at rows ticket ≡ None
@@ -64,10 +57,9 @@ may_enter rows index next ticket row tied may = record {
       (tied.queues name) (may.last name);
   lease_room = λ jid. some_room (lease_pair jid ticket row) (spare_at index.leases.spares jid)
       (rw (count_leased jid ticket row) (may.leases jid));
-  absent = λ jid. absent_pair ticket (lease_under jid row) (list_at index.leases.items jid)
-      (rw (tied.leases jid)
+  absent = λ jid. rw (tied.leases jid)
       (tickets_hold (λ other. other ≢ ticket) (lease_under jid) rows
-      (none_there rows ticket tied.by_ticket may.absent)));
+      (none_there rows ticket tied.by_ticket may.absent));
 }
 
 -- ---- that it entered

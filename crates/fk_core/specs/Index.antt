@@ -1,11 +1,11 @@
 -- By what rows are found: the queues, the leases, how many rows workers have, and a number that no
 -- ticket and no rank is above.
-use Rattle.std.specs.Prelude.{ℕ, ◌≡◌, ◌≢◌, ◌<◌, ◌+◌, ◌-◌, ◌++◌, max, if◌then◌else◌, List, [], ◌∷◌, Option, Some, option_map, option_to_list, drop, length, slice_get, unwrap_or, All, IfSome}
+use Rattle.std.specs.Prelude.{ℕ, ◌≡◌, ◌<◌, ◌+◌, ◌-◌, ◌++◌, max, if◌then◌else◌, List, [], ◌∷◌, Option, Some, option_map, option_to_list, drop, length, slice_get, unwrap_or, All, IfSome}
 use Rattle.std.specs.Option.{option_map_or}
 use Rattle.fk_model.specs.declared.row.Row.{Row}
 use Rattle.fk_model.specs.Orders.{number_in, rank_of, rank_in, ticket_in, with_pair, is_working, lease_under}
 use Rattle.fk_lists.specs.Room.{Room, list_at, spare_at}
-use Rattle.fk_leases.specs.Leases.{leased_ticket, without_lease}
+use Rattle.fk_leases.specs.Leases.{without_lease, IsUnleased}
 use Rattle.fk_core.specs.Reserved.{waits_in}
 
 pub record Index : Type 0 where
@@ -26,7 +26,7 @@ lease_pair jid ticket row = option_map (λ until. (ticket, until)) (lease_under 
 abbrev pub count_of : Option (ℕ × ℕ) → ℕ
 count_of pair = length (option_to_list pair)
 
--- a row may enter: there is room, its rank is above those of its queue, and its ticket has no lease
+-- a row may enter: there is room, its rank is above those of its queue, and no lease is of its ticket
 pub record MayEnter (index : Index) (ticket : ℕ) (row : Row) : Type 0 where
   pub queue_room : (name : List ℕ) →
       IfSome (waiting_pair name ticket row) (λ pair. 0 < spare_at index.queues.spares name)
@@ -34,8 +34,7 @@ pub record MayEnter (index : Index) (ticket : ℕ) (row : Row) : Type 0 where
       (λ pair. All (λ other. number_in other < number_in pair) (list_at index.queues.items name))
   pub lease_room : (jid : List ℕ) →
       IfSome (lease_pair jid ticket row) (λ pair. 0 < spare_at index.leases.spares jid)
-  pub absent : (jid : List ℕ) → IfSome (lease_pair jid ticket row)
-      (λ pair. All (λ lease. leased_ticket lease ≢ ticket) (list_at index.leases.items jid))
+  pub absent : IsUnleased ticket index.leases.items
 
 -- a row has entered: its queue, or the leases of its jid, have it, and nothing else changed
 pub record Entered (ticket : ℕ) (row : Row) (before after : Index) : Type 0 where

@@ -1,7 +1,6 @@
 use Rattle.std.specs.Prelude.{◌<◌, All}
 use Rattle.fk_model.specs.Orders.{number_in}
 use Rattle.fk_lists.specs.Room.{list_at, spare_at}
-use Rattle.fk_leases.specs.Leases.{IsAbsent}
 use Rattle.fk_core.proofs.Owned.{in_own_queue, under_own_jid}
 use Rattle.fk_core.proofs.index.Index.enter.Goals as goal
 
@@ -29,7 +28,4 @@ put-requires-in-Working-clause-room c =
 
 pub put-requires-in-Working-clause-absent : goal.put-requires-in-Working-clause-absent
 put-requires-in-Working-clause-absent c =
-    let may = rw (← c.self.view_is) at c.requires.may in
-    under_own_jid c.args.ticket c.args.row.now c.in-Working.wid c.in-Working.since c.in-Working.until
-    (λ pair. IsAbsent c.args.ticket (list_at c.self.inside.leases.items c.args.row.now.job.jid))
-    c.in-Working.is (may.absent c.args.row.now.job.jid)
+    let may = rw (← c.self.view_is) at c.requires.may in may.absent
