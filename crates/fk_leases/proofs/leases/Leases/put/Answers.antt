@@ -37,17 +37,18 @@ invariant_of-self c =
     (record { here = c.insert.ensures.here; others = c.insert.ensures.others.items }))
     c.insert.ensures.named c.enter.ensures.rising
     (one_more c.args.jid.now (c.args.ticket, c.args.until) c.in-Err.at _ _ sound.named c.insert.ensures.named
-    c.insert.ensures.here c.insert.ensures.others.items)
-    c.enter.ensures.same
+    c.insert.ensures.here c.insert.ensures.others.items) c.enter.ensures.same
 
--- the ticket has no lease under this jid
+-- the ticket has no lease under this jid, as under any other
 pub returns-in-Ok-clause-here : goal.returns-in-Ok-clause-here
 returns-in-Ok-clause-here c =
-    absurd (stands_nowhere _ c.args.ticket c.in-Ok.field-0 (c.requires.absent c.args.jid.now) (rw (← c.self.view_is) c.in-Ok.ensures.found))
+    absurd (stands_nowhere _ c.args.ticket c.in-Ok.field-0 (c.requires.absent c.args.jid.now)
+    (rw (← c.self.view_is) c.in-Ok.ensures.found))
 
 pub returns-in-Ok-clause-spare : goal.returns-in-Ok-clause-spare
 returns-in-Ok-clause-spare c =
-    absurd (stands_nowhere _ c.args.ticket c.in-Ok.field-0 (c.requires.absent c.args.jid.now) (rw (← c.self.view_is) c.in-Ok.ensures.found))
+    absurd (stands_nowhere _ c.args.ticket c.in-Ok.field-0 (c.requires.absent c.args.jid.now)
+    (rw (← c.self.view_is) c.in-Ok.ensures.found))
 
 pub returns-in-Err-clause-here : goal.returns-in-Err-clause-here
 returns-in-Err-clause-here c =
