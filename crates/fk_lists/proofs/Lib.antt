@@ -1,7 +1,6 @@
 pub mod Rising
 pub mod Renewed
 pub mod Counted
-pub mod Leasts
 pub mod NamesInOrder
 pub mod Lookups
 pub mod Updates

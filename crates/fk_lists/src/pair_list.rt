@@ -1,11 +1,9 @@
-ghost use Rattle.std.specs.Prelude.{◌≡◌, ◌++◌, ◌+◌, ◌<◌, ◌≤◌, ◌↔◌, [], filter, length, map, max, nat_lt, not, slice_get, IfErr, IfOk, IsOk, IsTrue, OnErr, OnOk};
+ghost use Rattle.std.specs.Prelude.{◌≡◌, ◌++◌, ◌+◌, ◌<◌, ◌≤◌, ◌↔◌, [], length, map, max, slice_get, IfErr, IfOk, IsOk, IsTrue, OnErr, OnOk};
 ghost use Rattle.std.specs.List.{insert, remove};
 ghost use Rattle.std.specs.List.Sorted.{IsStrictlyIncreasing};
 ghost use Rattle.fk_model.specs.Orders.{number_in};
-ghost use Rattle.fk_lists.specs.Least.{least};
 ghost use Rattle.fk_lists.specs.Places.{IsGap, IsPlace};
 
-use crate::looking::lesser;
 use fk_json::Pairs;
 use std::alloc::{AllocError, Global};
 use std::collections::VecDeque;
@@ -178,30 +176,6 @@ impl PairList {
         out.reserve(self.pairs.len())?;
         'adding: for pair in self.pairs.iter() {
             let _ = out.push(*pair);
-        }
-        Ok(())
-    }
-
-    /// The least second number.
-    pub(crate) fn least(&self) -> Option<u64>
-        ensures { result ≡ least (map (λ pair. pair.1) self.now.items) }
-    {
-        let mut least = None;
-        'looking: for pair in self.pairs.iter() {
-            least = lesser(least, Some(pair.1));
-        }
-        least
-    }
-
-    /// Adds the pairs whose second number is at most this.
-    pub(crate) fn gather(&self, limit: u64, found: &mut Vec<(u64, u64)>) -> Result<(), AllocError>
-        ensures { OnOk result (found.new.items
-            ≡ found.old.items ++ filter (λ pair. not (nat_lt limit pair.1)) self.now.items) }
-    {
-        'gathering: for pair in self.pairs.iter() {
-            if pair.1 <= limit {
-                found.push(*pair)?;
-            }
         }
         Ok(())
     }
