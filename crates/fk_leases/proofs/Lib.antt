@@ -1,3 +1,4 @@
+pub mod Beyond
 pub mod Leasing
 pub mod Standing
 pub mod Alike

@@ -1,6 +1,6 @@
 -- Leases: under each jid, the tickets of the rows of that jid that workers have, each with the moment
 -- until which it is theirs, in milliseconds since 1970-01-01T00:00:00Z.
-use Rattle.std.specs.Prelude.{ℕ, ◌==◌, ◌&&◌, ◌≢◌, not, nat_lt, List, Option, map, filter, All}
+use Rattle.std.specs.Prelude.{ℕ, ◌==◌, ◌&&◌, ◌≢◌, not, nat_lt, if◌then◌else◌, List, Option, None, Some, map, filter, All}
 use Rattle.std.specs.List.Sorted.{IsStrictlyIncreasing}
 use Rattle.fk_model.specs.Orders.{in_order}
 use Rattle.fk_lists.specs.Room.{Named, list_at, all_pairs}
@@ -13,6 +13,10 @@ leased_ticket lease = lease.0
 -- the moment until which it runs
 abbrev pub until_in : ℕ × ℕ → ℕ
 until_in lease = lease.1
+
+-- the ticket of a lease, if it runs beyond a moment
+abbrev pub ticket_beyond : ℕ → ℕ × ℕ → Option ℕ
+ticket_beyond moment lease = if nat_lt moment (until_in lease) then Some (leased_ticket lease) else None
 
 -- the leases of each jid are in order of ticket
 abbrev pub AreByTicket : Named → Type 0

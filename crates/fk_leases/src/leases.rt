@@ -1,8 +1,8 @@
-ghost use Rattle.std.specs.Prelude.{◌≡◌, ◌↔◌, ◌++◌, ◌^◌, ◌-◌, ◌+◌, ◌<◌, length, min, option_map, slice_get, Contains, IsFalse, IsTrue, OnErr, OnOk, Some};
+ghost use Rattle.std.specs.Prelude.{◌≡◌, ◌↔◌, ◌++◌, ◌^◌, ◌-◌, ◌+◌, ◌<◌, find, length, min, nat_lt, option_and_then, option_map, slice_get, Contains, IsFalse, IsTrue, OnErr, OnOk, Some};
 ghost use Rattle.std.specs.List.{remove};
 ghost use Rattle.fk_model.specs.Orders.{with_pair};
 ghost use Rattle.fk_lists.specs.Room.{all_pairs, list_at, no_lists, spare_at, AreNamed, IsLean, OthersStay};
-ghost use Rattle.fk_leases.specs.Leases.{first_until, leased_ticket, until_in, run_out, without_lease, AreByTicket, IsUnleased};
+ghost use Rattle.fk_leases.specs.Leases.{first_until, leased_ticket, until_in, run_out, ticket_beyond, without_lease, AreByTicket, IsUnleased};
 
 use crate::ends::{enter, first_moment, leases_of, leave};
 use fk_json::{Pairs, Text};
@@ -81,6 +81,31 @@ impl Leases {
         match self.lists.get(jid, 0) {
             Some((ticket, _)) => Some(ticket),
             None => None,
+        }
+    }
+
+    /// The least ticket that has a lease under this jid that runs beyond a moment.
+    pub fn find_beyond(&self, jid: &Text, moment: u64) -> Option<u64>
+        ensures ticket { result ≡ option_map leased_ticket
+            (find (λ lease. nat_lt moment (until_in lease)) (list_at self.now.items jid.now)) }
+        ensures order { AreByTicket self.now.items }
+    {
+        'looking: for at in 0..self.lists.len(jid) {
+            if let Some(ticket) = self.ticket_beyond(jid, at, moment) {
+                return Some(ticket);
+            }
+        }
+        None
+    }
+
+    // The ticket of the lease at a place, if it runs beyond a moment.
+    fn ticket_beyond(&self, jid: &Text, at: usize, moment: u64) -> Option<u64>
+        ensures { result ≡ option_and_then (ticket_beyond moment)
+            (slice_get (list_at self.now.items jid.now) at) }
+    {
+        match self.lists.get(jid, at) {
+            Some((ticket, until)) if moment < until => Some(ticket),
+            _ => None,
         }
     }
 
