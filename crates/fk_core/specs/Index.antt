@@ -1,16 +1,21 @@
--- By what rows are found: the queues, the leases, how many rows workers have, and a number that no
+-- By what rows are found: the queues, the leases, the sets by moment, how many rows workers have, and a number that no
 -- ticket and no rank is above.
 use Rattle.std.specs.Prelude.{ℕ, ◌≡◌, ◌<◌, ◌+◌, ◌-◌, ◌++◌, max, if◌then◌else◌, List, [], ◌∷◌, Option, Some, option_map, option_to_list, drop, length, slice_get, unwrap_or, All, IfSome}
 use Rattle.std.specs.Option.{option_map_or}
 use Rattle.fk_model.specs.declared.row.Row.{Row}
+use Rattle.fk_model.specs.declared.mutation.Target.{Target}
 use Rattle.fk_model.specs.Orders.{number_in, rank_of, rank_in, ticket_in, with_pair, is_working, lease_under}
 use Rattle.fk_lists.specs.Room.{Room, list_at, spare_at}
 use Rattle.fk_leases.specs.Leases.{without_lease, IsUnleased}
+use Rattle.fk_tree.specs.Order.{without_pair}
+use Rattle.fk_timed.specs.Timed.{IsAbsent}
 use Rattle.fk_core.specs.Reserved.{waits_in}
+use Rattle.fk_core.specs.Sets.{Sets, count_in, pairs_in, timed_pair}
 
 pub record Index : Type 0 where
   pub queues : Room
   pub leases : Room
+  pub sets : Sets
   pub working : ℕ
   pub greatest : ℕ
 
@@ -26,7 +31,8 @@ lease_pair jid ticket row = option_map (λ until. (ticket, until)) (lease_under 
 abbrev pub count_of : Option (ℕ × ℕ) → ℕ
 count_of pair = length (option_to_list pair)
 
--- a row may enter: there is room, its rank is above those of its queue, and no lease is of its ticket
+-- a row may enter: there is room, its rank is above those of its queue, and no lease and no pair of a set is
+-- of its ticket
 pub record MayEnter (index : Index) (ticket : ℕ) (row : Row) : Type 0 where
   pub queue_room : (name : List ℕ) →
       IfSome (waiting_pair name ticket row) (λ pair. 0 < spare_at index.queues.spares name)
@@ -35,8 +41,11 @@ pub record MayEnter (index : Index) (ticket : ℕ) (row : Row) : Type 0 where
   pub lease_room : (jid : List ℕ) →
       IfSome (lease_pair jid ticket row) (λ pair. 0 < spare_at index.leases.spares jid)
   pub absent : IsUnleased ticket index.leases.items
+  pub set_room : (target : Target) →
+      IfSome (timed_pair target ticket row.place) (λ pair. 0 < count_in target index.sets.spares)
+  pub unset : (target : Target) → IsAbsent ticket (pairs_in target index.sets.items)
 
--- a row has entered: its queue, or the leases of its jid, have it, and nothing else changed
+-- a row has entered: its queue, the leases of its jid or its set have it, and nothing else changed
 pub record Entered (ticket : ℕ) (row : Row) (before after : Index) : Type 0 where
   pub queues : (name : List ℕ) → list_at after.queues.items name
       ≡ option_map_or (λ pair. list_at before.queues.items name ++ pair ∷ [])
@@ -48,6 +57,11 @@ pub record Entered (ticket : ℕ) (row : Row) (before after : Index) : Type 0 wh
       + count_of (waiting_pair name ticket row) ≡ spare_at before.queues.spares name
   pub lease_room : (jid : List ℕ) → spare_at after.leases.spares jid
       + count_of (lease_pair jid ticket row) ≡ spare_at before.leases.spares jid
+  pub sets : (target : Target) → pairs_in target after.sets.items
+      ≡ option_map_or (λ pair. with_pair pair (pairs_in target before.sets.items))
+      (timed_pair target ticket row.place) (pairs_in target before.sets.items)
+  pub set_room : (target : Target) → count_in target after.sets.spares
+      + count_of (timed_pair target ticket row.place) ≡ count_in target before.sets.spares
   pub working : after.working ≡ (if is_working row.place then 1 else 0) + before.working
   pub greatest : after.greatest
       ≡ max (max before.greatest ticket) (unwrap_or (rank_of row.place) 0)
@@ -57,7 +71,7 @@ abbrev pub MayLeave : Index → ℕ → Row → Type 0
 MayLeave index ticket row = (name : List ℕ) → IfSome (waiting_pair name ticket row)
     (λ pair. option_map ticket_in (slice_get (list_at index.queues.items name) 0) ≡ Some ticket)
 
--- a row has left: its queue is without its first, or the leases of its jid are without it
+-- a row has left: its queue is without its first, or the leases of its jid or its set are without it
 pub record HasLeft (ticket : ℕ) (row : Row) (before after : Index) : Type 0 where
   pub queues : (name : List ℕ) → list_at after.queues.items name
       ≡ (if waits_in name (row.job, row.place) then drop 1 (list_at before.queues.items name)
@@ -69,6 +83,11 @@ pub record HasLeft (ticket : ℕ) (row : Row) (before after : Index) : Type 0 wh
       spare_at after.queues.spares name ≡ spare_at before.queues.spares name
   pub lease_room : (jid : List ℕ) →
       spare_at after.leases.spares jid ≡ spare_at before.leases.spares jid
+  pub sets : (target : Target) → pairs_in target after.sets.items
+      ≡ option_map_or (λ pair. without_pair pair (pairs_in target before.sets.items))
+      (timed_pair target ticket row.place) (pairs_in target before.sets.items)
+  pub set_room : (target : Target) →
+      count_in target after.sets.spares ≡ count_in target before.sets.spares
   pub working : (if is_working row.place then 1 else 0) + after.working ≡ before.working
   pub greatest : after.greatest ≡ before.greatest
 

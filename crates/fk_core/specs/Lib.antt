@@ -1,3 +1,4 @@
+pub mod Sets
 pub mod Held
 pub mod Reserved
 pub mod Entrances
@@ -7,3 +8,4 @@ pub mod Marked
 pub mod Tied
 pub mod Sizes
 pub mod Makes
+pub mod Lookups

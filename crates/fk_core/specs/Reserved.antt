@@ -4,12 +4,14 @@ use Rattle.std.specs.Option.{option_map_or}
 use Rattle.fk_job.specs.declared.job.Job.{Job}
 use Rattle.fk_model.specs.declared.row.Row.{Row}
 use Rattle.fk_model.specs.declared.place.Place.{Place}
+use Rattle.fk_model.specs.declared.mutation.Target.{Target}
 use Rattle.fk_model.specs.declared.move_.Move.{Move}
 use Rattle.fk_model.specs.declared.move_.Move.TheVariants.{Add, Put}
 use Rattle.fk_model.specs.Rows.{row_at, with_row}
 use Rattle.fk_model.specs.Orders.{is_queued, is_working}
 use Rattle.fk_lists.specs.Room.{spare_at}
 use Rattle.fk_core.specs.Held.{Held}
+use Rattle.fk_core.specs.Sets.{count_in, stands_at}
 
 -- the move is a new row
 abbrev pub is_add : Move → Bool
@@ -44,6 +46,10 @@ waits_in name put = is_queued put.1 && bytes_eq put.0.queue name
 abbrev pub is_leased_under : List ℕ → Job × Place → Bool
 is_leased_under jid put = is_working put.1 && bytes_eq put.0.jid jid
 
+-- a row stands in this set by moment, where this is its place
+abbrev pub stands_in : Target → Job × Place → Bool
+stands_in target put = stands_at target put.1
+
 -- the tables have room for each row that the moves put somewhere
 pub record Reserved (held : Held) (moves : List Move) : Type 0 where
   pub rows : count_by is_add moves ≤ held.room.rows
@@ -51,3 +57,5 @@ pub record Reserved (held : Held) (moves : List Move) : Type 0 where
       count_put (waits_in name) held.kept.rows moves ≤ spare_at held.room.queues name
   pub leases : (jid : List ℕ) →
       count_put (is_leased_under jid) held.kept.rows moves ≤ spare_at held.room.leases jid
+  pub sets : (target : Target) →
+      count_put (stands_in target) held.kept.rows moves ≤ count_in target held.room.sets

@@ -4,11 +4,13 @@ use Rattle.std.specs.Prelude.{ℕ, ◌≡◌, ◌<◌, ◌≤◌, List, length, 
 use Rattle.std.specs.List.Sorted.{IsStrictlyIncreasing}
 use Rattle.fk_model.specs.declared.row.Row.{Row}
 use Rattle.fk_model.specs.declared.move_.Move.TheVariants.{Add}
+use Rattle.fk_model.specs.declared.mutation.Target.{Target}
 use Rattle.fk_model.specs.Limits.{greatest_next}
 use Rattle.fk_model.specs.Rows.{ticket_of, row_of, IsByTicket}
-use Rattle.fk_model.specs.Orders.{number_in, rank_of, queue, leases, working}
+use Rattle.fk_model.specs.Orders.{number_in, rank_of, queue, leases, timed, working}
 use Rattle.fk_model.specs.Spellings.{HasSpelling}
 use Rattle.fk_lists.specs.Room.{list_at}
+use Rattle.fk_core.specs.Sets.{pairs_in}
 use Rattle.fk_core.specs.Index.{Index}
 
 -- no ticket and no rank is above a number
@@ -27,6 +29,7 @@ pub record AreTied (rows : List (ℕ × Row)) (index : Index) (next : ℕ) : Typ
   pub queues : (name : List ℕ) → list_at index.queues.items name ≡ queue rows name
   pub distinct : (name : List ℕ) → IsStrictlyIncreasing (map number_in (queue rows name))
   pub leases : (jid : List ℕ) → list_at index.leases.items jid ≡ leases rows jid
+  pub sets : (target : Target) → pairs_in target index.sets.items ≡ timed target rows
   pub working : index.working ≡ length (working rows)
   pub greatest : IsNotBelow index.greatest rows
   pub within : next ≤ greatest_next

@@ -1,9 +1,12 @@
 ghost use Rattle.std.specs.Prelude.{◌≡◌, ◌↔◌, ◌<◌, ◌≤◌, ◌+◌, ◌-◌, ◌^◌, ◌∷◌, if◌then◌else◌, ℕ, List, [], Some, option_map, slice_get, All, IsOk, IsTrue, OnOk};
 ghost use Rattle.fk_model.specs.Orders.{is_working, number_in, ticket_in, lease_under, rank_in};
 ghost use Rattle.fk_lists.specs.Room.{list_at, mark_at, spare_at};
+ghost use Rattle.fk_model.specs.declared.mutation.Target.{Target};
 ghost use Rattle.fk_core.specs.Index.{Entered, HasLeft, MayEnter, MayLeave};
 ghost use Rattle.fk_core.specs.Marks.{FindsTheSame, HasMore, IsMarked, IsUnmarked};
+ghost use Rattle.fk_core.specs.Sets.{count_in, pairs_in};
 
+use crate::sets::Sets;
 use fk_job::Job;
 use fk_json::Text;
 use fk_leases::Leases;
@@ -13,11 +16,13 @@ use fk_queues::Queues;
 use std::alloc::{AllocError, Global};
 use std::marker::Model;
 
-/// By what rows are found: in which queue they wait, and under which jid a worker has them.
+/// By what rows are found: in which queue they wait, under which jid a worker has them, and in
+/// which set by moment they stand.
 #[derive(Drop)]
 pub(crate) struct Index {
     pub(crate) queues: Queues,
     pub(crate) leases: Leases,
+    pub(crate) sets: Sets,
     pub(crate) working: usize,
     pub(crate) greatest: u64,
 }
@@ -30,6 +35,7 @@ impl Model for Index {
     ghost view = { λ index. record {
       queues = index.queues;
       leases = index.leases;
+      sets = index.sets;
       working = index.working;
       greatest = index.greatest;
     } };
@@ -40,12 +46,14 @@ impl Index {
     pub(crate) fn new(alloc: Global) -> Index
         ensures queues { result.queues.items ≡ [] }
         ensures leases { result.leases.items ≡ [] }
+        ensures sets { (target : Target) → pairs_in target result.sets.items ≡ [] }
         ensures working { result.working ≡ 0 }
         ensures greatest { result.greatest ≡ 0 }
     {
         Index {
             queues: Queues::new(alloc),
             leases: Leases::new(alloc),
+            sets: Sets::new(alloc),
             working: 0,
             greatest: 0,
         }
@@ -58,6 +66,7 @@ impl Index {
         ensures { Entered ticket row.now self.old self.new }
     {
         self.greatest = self.greatest.max(ticket);
+        self.sets.enter(ticket, &row.place);
         match &row.place {
             Place::Queued { rank } => {
                 self.greatest = self.greatest.max(*rank);
@@ -77,6 +86,7 @@ impl Index {
         requires some { (if is_working row.now.place then 1 else 0) ≤ self.old.working }
         ensures { HasLeft ticket row.now self.old self.new }
     {
+        self.sets.leave(ticket, &row.place);
         match &row.place {
             Place::Queued { .. } => {
                 let _ = self.queues.take_first(&row.job.queue);
@@ -104,11 +114,15 @@ impl Index {
             ≡ spare_at self.old.queues.spares name }
         ensures lease_room { (jid : List ℕ) → spare_at self.new.leases.spares jid
             ≡ spare_at self.old.leases.spares jid }
+        ensures sets { (target : Target) → pairs_in target self.new.sets.items ≡ [] }
+        ensures set_room { (target : Target) → count_in target self.new.sets.spares
+            ≡ count_in target self.old.sets.spares }
         ensures working { self.new.working ≡ 0 }
         ensures greatest { self.new.greatest ≡ 0 }
     {
         self.queues.clear();
         self.leases.clear();
+        self.sets.clear();
         self.working = 0;
         self.greatest = 0;
     }
@@ -120,9 +134,12 @@ impl Index {
             ≤ spare_at self.new.queues.spares name }
         ensures kept_leases { (jid : List ℕ) → spare_at self.old.leases.spares jid
             ≤ spare_at self.new.leases.spares jid }
+        ensures kept_sets { (target : Target) → count_in target self.old.sets.spares
+            ≤ count_in target self.new.sets.spares }
         ensures same { FindsTheSame self.old self.new }
         ensures ready { HasMore job.now place.now self.old → IsOk result }
     {
+        self.sets.mark(place)?;
         match place {
             Place::Queued { .. } => self.queues.mark(&job.queue),
             Place::Working { .. } => self.leases.mark(&job.jid),
@@ -135,6 +152,7 @@ impl Index {
         ensures marks { IsUnmarked job.now place.now self.old self.new }
         ensures same { FindsTheSame self.old self.new }
     {
+        self.sets.unmark(place);
         match place {
             Place::Queued { .. } => self.queues.unmark(&job.queue),
             Place::Working { .. } => self.leases.unmark(&job.jid),

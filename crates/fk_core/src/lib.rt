@@ -1,4 +1,5 @@
-//! The kept state in tables: the rows, and beside them the queues and leases by which they are found.
+//! The kept state in tables: the rows, and beside them the queues, leases and sets by which they are
+//! found.
 #![tactic(auto)]
 
 mod applying;
@@ -6,7 +7,9 @@ mod fitting;
 mod index;
 mod looking;
 mod reserving;
+mod sets;
 mod tables;
+mod timed_set;
 
 pub use fitting::GREATEST_NEXT;
 pub use tables::Tables;

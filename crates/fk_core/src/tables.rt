@@ -34,6 +34,7 @@ impl Model for Tables {
         rows = tables.rows.spare;
         queues = tables.index.queues.spares;
         leases = tables.index.leases.spares;
+        sets = tables.index.sets.spares;
       };
     } };
 
