@@ -14,4 +14,5 @@ pub mod MovesInTurn
 pub mod BelowNumber
 pub mod WellKept
 pub mod Owned
+pub mod SetsLater
 pub mod SizesOfQueues

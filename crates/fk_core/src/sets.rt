@@ -48,6 +48,7 @@ impl Model for Sets {
 
 impl Sets {
     /// No row. It takes no memory.
+    #[tactic(auto, unfolding(crate::specs::Sets::pairs_in, crate::specs::Sets::count_in))]
     pub(crate) fn new(alloc: Global) -> Sets
         ensures { (target : Target) → pairs_in target result.items ≡ [] }
     {
@@ -59,6 +60,7 @@ impl Sets {
     }
 
     /// The set of a target.
+    #[tactic(auto, unfolding(crate::specs::Sets::pairs_in, crate::specs::Sets::count_in))]
     pub(crate) fn get(&self, target: Target) -> &TimedSet
         ensures { result.now.items ≡ pairs_in target self.now.items }
     {
@@ -70,6 +72,7 @@ impl Sets {
     }
 
     /// A row enters the set of its place, if that is one.
+    #[tactic(auto, unfolding(crate::specs::Sets::pairs_in, crate::specs::Sets::count_in))]
     pub(crate) fn enter(&mut self, ticket: u64, place: &Place)
         requires room { (target : Target) → IfSome (timed_pair target ticket place.now)
             (λ pair. 0 < count_in target self.old.spares) }
@@ -89,6 +92,7 @@ impl Sets {
     }
 
     /// A row leaves the set of its place, if that is one.
+    #[tactic(auto, unfolding(crate::specs::Sets::pairs_in, crate::specs::Sets::count_in))]
     pub(crate) fn leave(&mut self, ticket: u64, place: &Place)
         ensures items { (target : Target) → pairs_in target self.new.items
             ≡ option_map_or (λ pair. without_pair pair (pairs_in target self.old.items))
@@ -105,6 +109,7 @@ impl Sets {
     }
 
     /// Marks one more in the set of a place, if it is in one.
+    #[tactic(auto, unfolding(crate::specs::Sets::pairs_in, crate::specs::Sets::count_in))]
     pub(crate) fn mark(&mut self, place: &Place) -> Result<(), AllocError>
         ensures ok { OnOk result (OneMore Target (λ target. stands_at target place.now)
             (by_set self.old) (by_set self.new)) }
@@ -123,6 +128,7 @@ impl Sets {
     }
 
     /// Takes all marks away in the set of a place, if it is in one.
+    #[tactic(auto, unfolding(crate::specs::Sets::pairs_in, crate::specs::Sets::count_in))]
     pub(crate) fn unmark(&mut self, place: &Place)
         ensures marks { NoneLeft Target (λ target. stands_at target place.now)
             (by_set self.old) (by_set self.new) }
@@ -137,6 +143,7 @@ impl Sets {
     }
 
     /// All rows leave. The rooms stay.
+    #[tactic(auto, unfolding(crate::specs::Sets::pairs_in, crate::specs::Sets::count_in))]
     pub(crate) fn clear(&mut self)
         ensures items { (target : Target) → pairs_in target self.new.items ≡ [] }
         ensures spares { self.new.spares ≡ self.old.spares }
@@ -147,6 +154,7 @@ impl Sets {
     }
 
     /// Whether the moment of each row is beyond this one.
+    #[tactic(auto, unfolding(crate::specs::Sets::pairs_in, crate::specs::Sets::count_in))]
     pub(crate) fn is_later(&self, moment: u64) -> bool
         ensures { IsTrue result ↔ ((target : Target) → AreLater moment (pairs_in target self.now.items)) }
     {
