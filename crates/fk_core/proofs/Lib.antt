@@ -1,4 +1,5 @@
 pub mod Standings
+pub mod InSets
 pub mod RowEnters
 pub mod RowLeaves
 pub mod RoomLeft

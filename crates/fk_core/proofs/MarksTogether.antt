@@ -5,13 +5,15 @@ use Rattle.std.specs.Option.{option_map_or}
 use Rattle.fk_job.specs.declared.job.Job.{Job}
 use Rattle.fk_model.specs.declared.row.Row.{Row}
 use Rattle.fk_model.specs.declared.place.Place.{Place}
+use Rattle.fk_model.specs.declared.mutation.Target.{Target}
 use Rattle.fk_model.specs.declared.move_.Move.{Move}
-use Rattle.fk_lists.specs.Room.{Room, mark_at, spare_at}
+use Rattle.fk_lists.specs.Room.{mark_at, spare_at}
 use Rattle.fk_core.specs.Held.{Held}
-use Rattle.fk_core.specs.Reserved.{Reserved, count_put, waits_in, is_leased_under}
+use Rattle.fk_core.specs.Sets.{count_in}
+use Rattle.fk_core.specs.Reserved.{Reserved, count_put, waits_in, is_leased_under, stands_in}
 use Rattle.fk_core.specs.Entrances.{put_at, count_one}
 use Rattle.fk_core.specs.Index.{Index}
-use Rattle.fk_core.specs.Marks.{FindsTheSame}
+use Rattle.fk_core.specs.Marks.{MarkedRoom, by_name, by_set, FindsTheSame}
 use Rattle.fk_core.specs.Marked.{HaveMore, KeepsRoom, OneIsMarked, AreMarked, NoneMarked, HasRoom, HasOneMore, OneUnmarked}
 use Rattle.fk_core.specs.Tied.{AreTied}
 use Rattle.fk_core.proofs.PutCounts.{count_next, count_none, count_short}
@@ -19,23 +21,29 @@ use Rattle.fk_core.proofs.PutCounts.{count_next, count_none, count_short}
 -- ---- what stays
 
 pub keeps_none : (index : Index) → KeepsRoom index index
-keeps_none index = record { queues = λ name. omega arith; leases = λ jid. omega arith }
+keeps_none index = record {
+  queues = λ name. omega arith;
+  leases = λ jid. omega arith;
+  sets = λ target. omega arith;
+}
 
 pub keeps_on : (before middle after : Index) → KeepsRoom before middle → KeepsRoom middle after
     → KeepsRoom before after
 keeps_on before middle after first second = record {
   queues = λ name. omega (arith, first.queues name, second.queues name);
   leases = λ jid. omega (arith, first.leases jid, second.leases jid);
+  sets = λ target. omega (arith, first.sets target, second.sets target);
 }
 
 pub same_none : (index : Index) → FindsTheSame index index
-same_none index = record { queues = refl; leases = refl; working = refl; greatest = refl }
+same_none index = record { queues = refl; leases = refl; sets = refl; working = refl; greatest = refl }
 
 pub same_on : (before middle after : Index) → FindsTheSame before middle → FindsTheSame middle after
     → FindsTheSame before after
 same_on before middle after first second = record {
   queues = second.queues ∙ first.queues;
   leases = second.leases ∙ first.leases;
+  sets = second.sets ∙ first.sets;
   working = second.working ∙ first.working;
   greatest = second.greatest ∙ first.greatest;
 }
@@ -43,16 +51,15 @@ same_on before middle after first second = record {
 -- ---- marks of one room
 
 -- some more, and then some more
-more_on : (one two sum : List ℕ → ℕ) (before middle after : Room) → HaveMore one before middle
-    → HaveMore two middle after
-    → ((name : List ℕ) → spare_at middle.spares name ≤ spare_at after.spares name)
-    → ((name : List ℕ) → sum name ≡ two name + one name) → HaveMore sum before after
-more_on one two sum before middle after first second kept both = record {
-  marks = λ name. omega (arith, first.marks name, second.marks name, both name);
-  within = λ name some. within_on (one name) (two name) (sum name) (mark_at before.marks name)
-      (mark_at middle.marks name) (mark_at after.marks name) (spare_at middle.spares name)
-      (spare_at after.spares name) (first.marks name) (first.within name) (second.marks name)
-      (second.within name) (kept name) (both name) some;
+more_on : (K : Type 0) (one two sum : K → ℕ) (before middle after : MarkedRoom K)
+    → HaveMore K one before middle → HaveMore K two middle after
+    → ((key : K) → middle.spares key ≤ after.spares key) → ((key : K) → sum key ≡ two key + one key)
+    → HaveMore K sum before after
+more_on K one two sum before middle after first second kept both = record {
+  marks = λ key. omega (arith, first.marks key, second.marks key, both key);
+  within = λ key some. within_on (one key) (two key) (sum key) (before.marks key) (middle.marks key)
+      (after.marks key) (middle.spares key) (after.spares key) (first.marks key) (first.within key)
+      (second.marks key) (second.within key) (kept key) (both key) some;
 }
   where
     within_on : (one two sum old_marked marked new_marked spare new_spare : ℕ) → marked ≡ one + old_marked
@@ -63,11 +70,11 @@ more_on one two sum before middle after first second kept both = record {
     within_on one (suc two) sum old_marked marked new_marked spare new_spare more fits next others kept both some =
         others (omega arith)
 
-more_none : (count : List ℕ → ℕ) (room : Room) → ((name : List ℕ) → count name ≡ 0)
-    → HaveMore count room room
-more_none count room none = record {
-  marks = λ name. omega (arith, none name);
-  within = λ name some. absurd (omega (arith, some, none name));
+more_none : (K : Type 0) (count : K → ℕ) (room : MarkedRoom K) → ((key : K) → count key ≡ 0)
+    → HaveMore K count room room
+more_none K count room none = record {
+  marks = λ key. omega (arith, none key);
+  within = λ key some. absurd (omega (arith, some, none key));
 }
 
 -- one more finds room
@@ -79,10 +86,12 @@ room_for_one count all marked old_marked spare old_spare is short none fits kept
 
 pub marked_none : (rows : List (ℕ × Row)) (index : Index) → AreMarked rows [] index index
 marked_none rows index = record {
-  queues = more_none (λ name. count_put (waits_in name) rows []) index.queues
+  queues = more_none (List ℕ) (λ name. count_put (waits_in name) rows []) (by_name index.queues)
       (λ name. count_none (waits_in name) rows);
-  leases = more_none (λ jid. count_put (is_leased_under jid) rows []) index.leases
+  leases = more_none (List ℕ) (λ jid. count_put (is_leased_under jid) rows []) (by_name index.leases)
       (λ jid. count_none (is_leased_under jid) rows);
+  sets = more_none Target (λ target. count_put (stands_in target) rows []) (by_set index.sets)
+      (λ target. count_none (stands_in target) rows);
 }
 
 pub marked_next : (rows : List (ℕ × Row)) (moves : List Move) (at : ℕ) (before middle after : Index)
@@ -90,16 +99,21 @@ pub marked_next : (rows : List (ℕ × Row)) (moves : List Move) (at : ℕ) (bef
     → OneIsMarked (put_at rows moves at) middle after → KeepsRoom middle after
     → AreMarked rows (take (at + 1) moves) before after
 marked_next rows moves at before middle after first second kept = rw add-one (record {
-  queues = more_on (λ name. count_put (waits_in name) rows (take at moves))
+  queues = more_on (List ℕ) (λ name. count_put (waits_in name) rows (take at moves))
       (λ name. count_one (waits_in name) (put_at rows moves at))
       (λ name. count_put (waits_in name) rows (take (suc at) moves))
-      before.queues middle.queues after.queues first.queues second.queues kept.queues
+      (by_name before.queues) (by_name middle.queues) (by_name after.queues) first.queues second.queues kept.queues
       (λ name. count_next (waits_in name) moves at rows);
-  leases = more_on (λ jid. count_put (is_leased_under jid) rows (take at moves))
+  leases = more_on (List ℕ) (λ jid. count_put (is_leased_under jid) rows (take at moves))
       (λ jid. count_one (is_leased_under jid) (put_at rows moves at))
       (λ jid. count_put (is_leased_under jid) rows (take (suc at) moves))
-      before.leases middle.leases after.leases first.leases second.leases kept.leases
+      (by_name before.leases) (by_name middle.leases) (by_name after.leases) first.leases second.leases kept.leases
       (λ jid. count_next (is_leased_under jid) moves at rows);
+  sets = more_on Target (λ target. count_put (stands_in target) rows (take at moves))
+      (λ target. count_one (stands_in target) (put_at rows moves at))
+      (λ target. count_put (stands_in target) rows (take (suc at) moves))
+      (by_set before.sets) (by_set middle.sets) (by_set after.sets) first.sets second.sets kept.sets
+      (λ target. count_next (stands_in target) moves at rows);
 })
 
 -- where there is room for all that moves put somewhere, there is room for one more of them
@@ -123,6 +137,12 @@ one_more rows moves at before now marked kept none room = for_one (put_at rows m
           (spare_at before.leases.spares jid) (marked.leases.marks jid)
           (count_short (is_leased_under jid) moves at rows put is passes) (none.leases jid)
           (room.leases jid) (kept.leases jid);
+      sets = λ target passes. room_for_one (count_put (stands_in target) rows (take at moves))
+          (count_put (stands_in target) rows moves) (count_in target now.sets.marks)
+          (count_in target before.sets.marks) (count_in target now.sets.spares)
+          (count_in target before.sets.spares) (marked.sets.marks target)
+          (count_short (stands_in target) moves at rows put is passes) (none.sets target)
+          (room.sets target) (kept.sets target);
     }
 
 count_fits : (count old_marked marked spare : ℕ) → (0 < count → old_marked ≡ 0) → marked ≡ count + old_marked
@@ -141,6 +161,9 @@ marks_fit rows moves before after none marked = record {
   leases = λ jid. count_fits (count_put (is_leased_under jid) rows moves) (mark_at before.leases.marks jid)
       (mark_at after.leases.marks jid) (spare_at after.leases.spares jid) (none.leases jid)
       (marked.leases.marks jid) (marked.leases.within jid);
+  sets = λ target. count_fits (count_put (stands_in target) rows moves) (count_in target before.sets.marks)
+      (count_in target after.sets.marks) (count_in target after.sets.spares) (none.sets target)
+      (marked.sets.marks target) (marked.sets.within target);
 }
 
 -- ---- marks taken away
@@ -149,6 +172,7 @@ pub unmarked_none : (rows : List (ℕ × Row)) (index : Index) → NoneMarked ro
 unmarked_none rows index = record {
   queues = λ name some. absurd (omega (arith, some, count_none (waits_in name) rows));
   leases = λ jid some. absurd (omega (arith, some, count_none (is_leased_under jid) rows));
+  sets = λ target some. absurd (omega (arith, some, count_none (stands_in target) rows));
 }
 
 none_next : (count next before after : ℕ) (test : Bool) → next ≡ (if test then 1 else 0) + count
@@ -170,6 +194,10 @@ unmarked_next rows moves at before after none one = rw add-one (record {
       (mark_at after.leases.marks jid)
       (option_map_or (is_leased_under jid) (put_at rows moves at) false)
       (count_next (is_leased_under jid) moves at rows) (none.leases jid) (one.leases jid);
+  sets = λ target. none_next (count_put (stands_in target) rows (take at moves))
+      (count_put (stands_in target) rows (take (suc at) moves)) (count_in target before.sets.marks)
+      (count_in target after.sets.marks) (option_map_or (stands_in target) (put_at rows moves at) false)
+      (count_next (stands_in target) moves at rows) (none.sets target) (one.sets target);
 })
 
 -- ---- tables
@@ -177,13 +205,15 @@ unmarked_next rows moves at before after none one = rw add-one (record {
 -- where tables have room for moves, they have it still where no room is less
 pub room_stays : (held : Held) (rows : List (ℕ × Row)) (moves : List Move) (before after : Index)
     → held.kept.rows ≡ rows → held.room.queues ≡ before.queues.spares
-    → held.room.leases ≡ before.leases.spares → KeepsRoom before after → Reserved held moves
+    → held.room.leases ≡ before.leases.spares → held.room.sets ≡ before.sets.spares → KeepsRoom before after → Reserved held moves
     → HasRoom rows moves after
-room_stays held rows moves before after same queues leases kept reserved = rw (← same) (record {
+room_stays held rows moves before after same queues leases sets kept reserved = rw (← same) (record {
   queues = λ name. let more : spare_at held.room.queues name ≤ spare_at after.queues.spares name =
       rw queues (kept.queues name) in omega (arith, reserved.queues name, more);
   leases = λ jid. let more : spare_at held.room.leases jid ≤ spare_at after.leases.spares jid =
       rw leases (kept.leases jid) in omega (arith, reserved.leases jid, more);
+  sets = λ target. let more : count_in target held.room.sets ≤ count_in target after.sets.spares =
+      rw sets (kept.sets target) in omega (arith, reserved.sets target, more);
 })
 
 -- tables by which the same is found are tied as before
@@ -195,6 +225,7 @@ tied_on rows before after next tied same = record {
   queues = λ name. rw (same.queues) (tied.queues name);
   distinct = tied.distinct;
   leases = λ jid. rw (same.leases) (tied.leases jid);
+  sets = λ target. rw (same.sets) (tied.sets target);
   working = same.working ∙ tied.working;
   greatest = rw (same.greatest) tied.greatest;
   within = tied.within;

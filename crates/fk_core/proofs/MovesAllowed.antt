@@ -22,7 +22,7 @@ use Rattle.fk_model.proofs.SoundMoves.{no_rank}
 use Rattle.fk_core.specs.declared.tables.Tables.TheInside.{Inside}
 use Rattle.fk_core.specs.Held.{Held}
 use Rattle.fk_core.specs.Index.{Index, MayLeave}
-use Rattle.fk_core.specs.Reserved.{waits_in, is_leased_under, Reserved}
+use Rattle.fk_core.specs.Reserved.{waits_in, is_leased_under, stands_in, Reserved}
 use Rattle.fk_core.specs.Tied.{IsNotBelow, AreTied}
 use Rattle.fk_core.proofs.RoomLeft.{count_first}
 use Rattle.fk_core.proofs.MovesMade.{held_in}
@@ -64,6 +64,7 @@ renumbered rows before after next to tied within above changed = rw changed (rec
   queues = tied.queues;
   distinct = tied.distinct;
   leases = tied.leases;
+  sets = tied.sets;
   working = tied.working;
   greatest = not_below rows to above;
   within = within;
@@ -104,6 +105,11 @@ add_comes tables before ticket row same fits reserved =
         arith,
         room.leases jid,
         count_first (is_leased_under jid) tables.rows.items (Add ticket row) [],
+      );
+      sets = λ target. omega (
+        arith,
+        room.sets target,
+        count_first (stands_in target) tables.rows.items (Add ticket row) [],
       );
     }
 

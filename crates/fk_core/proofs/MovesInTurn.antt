@@ -8,7 +8,7 @@ use Rattle.fk_json.specs.Roomy.{Room}
 use Rattle.fk_model.specs.Changes.{after_move, after_moves, Fits, FitInTurn}
 use Rattle.fk_model.proofs.Leading.{after_both}
 use Rattle.fk_core.specs.Held.{Held}
-use Rattle.fk_core.specs.Reserved.{waits_in, is_leased_under, Reserved}
+use Rattle.fk_core.specs.Reserved.{waits_in, is_leased_under, stands_in, Reserved}
 use Rattle.fk_core.specs.Makes.{Makes}
 use Rattle.fk_core.proofs.PutCounts.{adds_more}
 use Rattle.fk_core.proofs.RoomLeft.{count_front}
@@ -95,6 +95,11 @@ first_room held move moves reserved = record {
     arith,
     reserved.leases jid,
     count_front (is_leased_under jid) held.kept.rows (move ∷ []) moves,
+  );
+  sets = λ target. omega (
+    arith,
+    reserved.sets target,
+    count_front (stands_in target) held.kept.rows (move ∷ []) moves,
   );
 }
 

@@ -5,6 +5,7 @@ use Rattle.std.specs.Option.{option_map_or}
 use Rattle.fk_job.specs.declared.job.Job.{Job}
 use Rattle.fk_job.specs.declared.failure.Failure.{Failure}
 use Rattle.fk_model.specs.declared.row.Row.{Row}
+use Rattle.fk_model.specs.declared.mutation.Target.{Target}
 use Rattle.fk_model.specs.declared.place.Place.{Place}
 use Rattle.fk_model.specs.declared.move_.Move.{Move}
 use Rattle.fk_model.specs.declared.move_.Move.TheVariants.{Add, Put, Drop, DropAll, Totals}
@@ -17,9 +18,10 @@ use Rattle.fk_lists.specs.Room.{spare_at}
 use Rattle.fk_core.specs.declared.tables.Tables.TheInside.{Inside}
 use Rattle.fk_core.specs.Held.{Held}
 use Rattle.fk_core.specs.Index.{Index, HasLeft, Entered}
-use Rattle.fk_core.specs.Reserved.{is_add, job_put, known_behind, count_put, waits_in, is_leased_under, Reserved}
+use Rattle.fk_core.specs.Reserved.{is_add, job_put, known_behind, count_put, waits_in, is_leased_under, stands_in, Reserved}
+use Rattle.fk_core.specs.Sets.{count_in}
 use Rattle.fk_core.specs.Makes.{Makes}
-use Rattle.fk_core.proofs.Standings.{count_waiting, count_leased}
+use Rattle.fk_core.proofs.Standings.{count_waiting, count_leased, count_timed}
 use Rattle.fk_core.proofs.PutCounts.{adds_more}
 use Rattle.fk_core.proofs.RoomLeft.{KnowsLess, count_first, count_less, knows_changed, knows_without, knows_none}
 
@@ -36,6 +38,7 @@ held_by rows index next processed failures = record {
     rows = rows.spare;
     queues = index.queues.spares;
     leases = index.leases.spares;
+    sets = index.sets.spares;
   };
 }
 
@@ -56,6 +59,8 @@ pub record TakesOnly (move : Move) (before after : Held) : Type 0 where
       ≤ taken_by (waits_in name) before.kept.rows move + spare_at after.room.queues name
   pub leases : (jid : List ℕ) → spare_at before.room.leases jid
       ≤ taken_by (is_leased_under jid) before.kept.rows move + spare_at after.room.leases jid
+  pub sets : (target : Target) → count_in target before.room.sets
+      ≤ taken_by (stands_in target) before.kept.rows move + count_in target after.room.sets
   pub known : KnowsLess after.kept.rows (known_behind before.kept.rows move)
 
 left_over : (test : Job × Place → Bool) (move : Move) (before after : List (ℕ × Row))
@@ -77,6 +82,9 @@ room_left move before after takes others reserved = record {
   leases = λ jid. left_over (is_leased_under jid) move before.kept.rows after.kept.rows others
       (spare_at before.room.leases jid) (spare_at after.room.leases jid) takes.known
       (takes.leases jid) (reserved.leases jid);
+  sets = λ target. left_over (stands_in target) move before.kept.rows after.kept.rows others
+      (count_in target before.room.sets) (count_in target after.room.sets) takes.known
+      (takes.sets target) (reserved.sets target);
 }
 
 same_known : (rows : List (ℕ × Row)) → IsByTicket rows → KnowsLess rows rows
@@ -101,6 +109,7 @@ module _ (tables : Inside) (now : RowRoom) (after : Index) (by_ticket : IsByTick
           rows = omega arith;
           queues = λ name. omega (arith, entered.queue_room name, count_waiting name ticket row);
           leases = λ jid. omega (arith, entered.lease_room jid, count_leased jid ticket row);
+          sets = λ target. omega (arith, entered.set_room target, count_timed target ticket row);
           known = rw items
               (same_known (with_row tables.rows.items ticket row) (by_ticket_with tables.rows.items ticket row by_ticket));
         });
@@ -126,6 +135,8 @@ module _ (tables : Inside) (now : RowRoom) (after : Index) (by_ticket : IsByTick
                   (omega (arith, left.queue_room name, entered.queue_room name, count_waiting name ticket put));
               leases = λ jid. rw at
                   (omega (arith, left.lease_room jid, entered.lease_room jid, count_leased jid ticket put));
+              sets = λ target. rw at
+                  (omega (arith, left.set_room target, entered.set_room target, count_timed target ticket put));
               known = rw items (knows_changed tables.rows.items ticket enqueued failure place by_ticket);
             });
       }
@@ -142,6 +153,7 @@ module _ (tables : Inside) (now : RowRoom) (after : Index) (by_ticket : IsByTick
           rows = omega arith;
           queues = λ name. omega (arith, left.queue_room name);
           leases = λ jid. omega (arith, left.lease_room jid);
+          sets = λ target. omega (arith, left.set_room target);
           known = rw items (knows_without tables.rows.items ticket by_ticket);
         });
   }
@@ -150,15 +162,17 @@ module _ (tables : Inside) (now : RowRoom) (after : Index) (by_ticket : IsByTick
   pub made_all : now.items ≡ [] → tables.rows.spare ≤ now.spare
       → ((name : List ℕ) → spare_at after.queues.spares name ≡ spare_at tables.index.queues.spares name)
       → ((jid : List ℕ) → spare_at after.leases.spares jid ≡ spare_at tables.index.leases.spares jid)
+      → ((target : Target) → count_in target after.sets.spares ≡ count_in target tables.index.sets.spares)
       → Makes DropAll (held_in tables) (held_by now after tables.next tables.processed tables.failures)
   unfolding after_move
-  made_all items spare queues leases = record {
+  made_all items spare queues leases sets = record {
     kept = rw items refl;
     room = room_left DropAll (held_in tables) (held_by now after tables.next tables.processed tables.failures)
         (record {
           rows = omega arith;
           queues = λ name. omega (arith, queues name);
           leases = λ jid. omega (arith, leases jid);
+          sets = λ target. omega (arith, sets target);
           known = rw items (knows_none tables.rows.items by_ticket);
         });
   }
@@ -177,6 +191,7 @@ made_totals tables after next processed failures greatest by_ticket renumbered =
         rows = omega arith;
         queues = λ name. omega arith;
         leases = λ jid. omega arith;
+        sets = λ target. omega arith;
         known = same_known tables.rows.items by_ticket;
       });
 })

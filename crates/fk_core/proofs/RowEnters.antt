@@ -5,6 +5,7 @@ use Rattle.std.specs.Option.{option_map_or}
 use Rattle.std.proofs.lemmas.Bool.Decides.{nat_tests}
 use Rattle.std.proofs.lemmas.List.Elements.{All-weaker, filter_passes}
 use Rattle.fk_model.specs.declared.row.Row.{Row}
+use Rattle.fk_model.specs.declared.mutation.Target.{Target}
 use Rattle.fk_model.specs.declared.move_.Move.TheVariants.{Add}
 use Rattle.fk_model.specs.Rows.{ticket_of, row_of, IsByTicket, row_at, with_row, without_row}
 use Rattle.fk_model.specs.Orders.{number_in, with_pair, rank_of, rank_in, is_working, lease_under, queue, leases, working}
@@ -16,10 +17,12 @@ use Rattle.fk_model.proofs.Counted.{one_if, count_with}
 use Rattle.fk_model.proofs.Queues.{queue_appends, queue_stays}
 use Rattle.fk_model.proofs.Fitting.{IsLast, rising_new}
 use Rattle.fk_lists.specs.Room.{list_at, spare_at}
-use Rattle.fk_core.specs.Reserved.{waits_in, is_leased_under}
+use Rattle.fk_core.specs.Reserved.{waits_in, is_leased_under, stands_in}
+use Rattle.fk_core.specs.Sets.{count_in, timed_pair}
 use Rattle.fk_core.specs.Index.{Index, MayEnter, Entered, waiting_pair, lease_pair}
 use Rattle.fk_core.specs.Tied.{IsNotBelow, AreTied}
-use Rattle.fk_core.proofs.Standings.{count_waiting, count_leased, some_room, joined_pair}
+use Rattle.fk_core.proofs.Standings.{count_waiting, count_leased, count_timed, some_room, joined_pair}
+use Rattle.fk_core.proofs.InSets.{unset, set_with}
 
 -- ---- that it may enter
 
@@ -47,6 +50,8 @@ pub record MayCome (rows : List (ℕ × Row)) (index : Index) (ticket : ℕ) (ro
       one_if (waits_in name (row.job, row.place)) ≤ spare_at index.queues.spares name
   pub leases : (jid : List ℕ) →
       one_if (is_leased_under jid (row.job, row.place)) ≤ spare_at index.leases.spares jid
+  pub sets : (target : Target) →
+      one_if (stands_in target (row.job, row.place)) ≤ count_in target index.sets.spares
 
 pub may_enter : (rows : List (ℕ × Row)) (index : Index) (next ticket : ℕ) (row : Row)
     → AreTied rows index next → MayCome rows index ticket row → MayEnter index ticket row
@@ -60,6 +65,9 @@ may_enter rows index next ticket row tied may = record {
   absent = λ jid. rw (tied.leases jid)
       (tickets_hold (λ other. other ≢ ticket) (lease_under jid) rows
       (none_there rows ticket tied.by_ticket may.absent));
+  set_room = λ target. some_room (timed_pair target ticket row.place) (count_in target index.sets.spares)
+      (rw (count_timed target ticket row) (may.sets target));
+  unset = λ target. rw (tied.sets target) (unset target rows ticket tied.by_ticket may.absent);
 }
 
 -- ---- that it entered
@@ -130,6 +138,8 @@ row_entered rows before after next ticket row tied may spelled entered = record 
       (may.last name) (tied.distinct name);
   leases = λ jid. rw (entered.leases jid, tied.leases jid)
       (leases_with rows ticket row jid tied.by_ticket may.absent);
+  sets = λ target. rw (entered.sets target, tied.sets target)
+      (set_with target rows ticket row tied.by_ticket may.absent);
   working = rw (entered.working, tied.working) (sym (working_with rows ticket row tied.by_ticket may.absent));
   greatest = rw entered.greatest (not_below_with rows ticket row before.greatest tied.greatest);
   within = tied.within;

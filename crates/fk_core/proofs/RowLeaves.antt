@@ -20,6 +20,7 @@ use Rattle.fk_leases.specs.Leases.{without_lease}
 use Rattle.fk_core.specs.Index.{Index, MayLeave, HasLeft, Entered}
 use Rattle.fk_core.specs.Tied.{AreTied}
 use Rattle.fk_core.proofs.Standings.{waits_ranked}
+use Rattle.fk_core.proofs.InSets.{set_less}
 use Rattle.fk_core.proofs.RowEnters.{MayCome, row_entered}
 
 -- ---- the queues
@@ -79,6 +80,8 @@ row_left rows before after next ticket row tied at may left = record {
   distinct = λ name. rising_without (rank_in name) rows ticket (tied.distinct name);
   leases = λ jid. rw (left.leases jid, tied.leases jid)
       (leases_less rows ticket row jid (lease_under jid row) tied.by_ticket at refl);
+  sets = λ target. rw (left.sets target, tied.sets target)
+      (set_less target rows ticket row tied.by_ticket at);
   working = omega (arith, left.working, working_less rows before next ticket row tied at);
   greatest = rw left.greatest
       (record {

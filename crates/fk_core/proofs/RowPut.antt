@@ -4,6 +4,7 @@ use Rattle.std.specs.Prelude.{Option, Some, option_map}
 use Rattle.std.proofs.lemmas.Option.{same_Some}
 use Rattle.fk_job.specs.declared.failure.Failure.{Failure}
 use Rattle.fk_model.specs.declared.row.Row.{Row}
+use Rattle.fk_model.specs.declared.mutation.Target.{Target}
 use Rattle.fk_model.specs.declared.place.Place.{Place}
 use Rattle.fk_model.specs.declared.move_.Move.TheVariants.{Add, Put}
 use Rattle.fk_model.specs.Rows.{ticket_of, row_of, row_at, with_changed, without_row}
@@ -16,7 +17,7 @@ use Rattle.fk_model.proofs.Counted.{one_if}
 use Rattle.fk_core.specs.declared.tables.Tables.TheInside.{Inside}
 use Rattle.fk_core.specs.Held.{Held}
 use Rattle.fk_core.specs.Index.{Index, MayEnter, MayLeave, HasLeft, Entered}
-use Rattle.fk_core.specs.Reserved.{waits_in, is_leased_under, Reserved}
+use Rattle.fk_core.specs.Reserved.{waits_in, is_leased_under, stands_in, Reserved}
 use Rattle.fk_core.specs.Tied.{AreTied}
 use Rattle.fk_core.proofs.RoomLeft.{count_first}
 use Rattle.fk_core.proofs.RowEnters.{MayCome, may_enter}
@@ -81,6 +82,7 @@ module _ (tables : Inside) (ticket : ℕ) (enqueued : Option ℕ) (failure : Opt
       let move = Put ticket enqueued failure place in
       let queues = λ (name : List ℕ). count_first (waits_in name) tables.rows.items move [] in
       let leases = λ (jid : List ℕ). count_first (is_leased_under jid) tables.rows.items move [] in
+      let sets = λ (target : Target). count_first (stands_in target) tables.rows.items move [] in
       record {
         absent = row_at_without tables.rows.items ticket;
         last = λ name. last_less tables.rows.items ticket name
@@ -90,6 +92,8 @@ module _ (tables : Inside) (ticket : ℕ) (enqueued : Option ℕ) (failure : Opt
             (omega (arith, put.room.queues name, rw put.at at (queues name)));
         leases = λ jid. rw (left.lease_room jid)
             (omega (arith, put.room.leases jid, rw put.at at (leases jid)));
+        sets = λ target. rw (left.set_room target)
+            (omega (arith, put.room.sets target, rw put.at at (sets target)));
       }
 
   -- the row as it is then

@@ -29,3 +29,7 @@ put-requires-in-Working-clause-room c =
 pub put-requires-in-Working-clause-absent : goal.put-requires-in-Working-clause-absent
 put-requires-in-Working-clause-absent c =
     let may = rw (← c.self.view_is) at c.requires.may in may.absent
+
+pub enter-requires-clause-absent : goal.enter-requires-clause-absent
+enter-requires-clause-absent c =
+    let may = rw (← c.self.view_is) at c.requires.may in may.unset

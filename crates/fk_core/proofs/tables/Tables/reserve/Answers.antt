@@ -15,4 +15,5 @@ returns-clause-ready c = λ reserved.
     c.unmark_all.new.index
     (sym (ap (λ (held : Held). held.kept.rows) c.self.view_is) ∙ sym (c.in_ok-reserve.ensures.same))
     (sym (ap (λ (held : Held). held.room.queues) c.self.view_is))
-    (sym (ap (λ (held : Held). held.room.leases) c.self.view_is)) c.unmark_all.ensures.kept reserved)
+    (sym (ap (λ (held : Held). held.room.leases) c.self.view_is))
+    (sym (ap (λ (held : Held). held.room.sets) c.self.view_is)) c.unmark_all.ensures.kept reserved)
