@@ -45,7 +45,7 @@ FindsBeyond rows jid moment = option_map leased_ticket (find (λ lease. nat_lt m
 beyond_more : (filed : ℕ × Row) (rows : List (ℕ × Row)) (jid : List ℕ) (moment : ℕ) (place : Place) (same lasts : Bool)
     → (row_of filed).place ≡ place → bytes_eq (row_of filed).job.jid jid ≡ same → outlasts moment place ≡ lasts
     → FindsBeyond rows jid moment → FindsBeyond (filed ∷ rows) jid moment
-beyond_more filed rows jid moment (Working wid since until) true true at e lasts rest = rw (at, e, lasts) refl
+beyond_more filed rows jid moment (Working wid since until) true true at e lasts rest = rw (at, lasts, e, lasts) refl
 beyond_more filed rows jid moment (Working wid since until) false true at e lasts rest = rw (at, lasts, e) rest
 beyond_more filed rows jid moment (Working wid since until) true false at e lasts rest = rw (at, e, lasts) rest
 beyond_more filed rows jid moment (Working wid since until) false false at e lasts rest = rw (at, e, lasts) rest
