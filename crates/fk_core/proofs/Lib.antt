@@ -17,3 +17,5 @@ pub mod WellKept
 pub mod Owned
 pub mod SetsLater
 pub mod SizesOfQueues
+pub mod AllLeases
+pub mod NothingDue

@@ -45,13 +45,13 @@ differ one other before same =
     let equal : bytes_eq one other ≡ true = (bytes_eq-Decides one other).1 same in
     absurd (cc (rw before at test))
 
-distinct : (items : Named) → AreNamed items → IsDistinct bytes_eq (keys_of items)
+pub distinct : (items : Named) → AreNamed items → IsDistinct bytes_eq (keys_of items)
 distinct items named =
     IsDistinct-from_AllPairs bytes_eq-Decides (keys_of items)
     (weaker_pairs IsBefore (λ one other. one ≢ other) (keys_of items) differ
     (mapped_pairs IsBefore (λ entry. entry.0) items named.by_name))
 
-own_list : (items : Named) → AreNamed items → (entry : List ℕ × List (ℕ × ℕ)) → Contains items entry
+pub own_list : (items : Named) → AreNamed items → (entry : List ℕ × List (ℕ × ℕ)) → Contains items entry
     → list_at items entry.0 ≡ entry.1
 unfolding list_at
 own_list items named entry held =

@@ -116,7 +116,7 @@ impl Tables {
     pub fn nothing_due(&self, moment: u64) -> bool
         ensures { IsTrue result ↔ IsUpToDate moment self.now.kept }
     {
-        self.index.sets.is_later(moment) && is_later(&self.index.leases, moment)
+        self.index.sets.is_later(moment) && leases_last(&self.index.leases, moment)
     }
 
     /// The queues in which a row waits, in order of the bytes of their names, each with the number
@@ -128,8 +128,8 @@ impl Tables {
     }
 }
 
-/// Whether each lease ends beyond a moment.
-fn is_later(leases: &Leases, moment: u64) -> bool
+/// Whether each lease runs beyond a moment.
+fn leases_last(leases: &Leases, moment: u64) -> bool
     ensures later { IsTrue result
         ↔ IfSome (first_until leases.now.items) (λ until. moment < until) }
     ensures named { AreNamed leases.now.items }
