@@ -1,6 +1,6 @@
 -- The sets by moment, where a row enters and where one leaves.
 use Rattle.std.proofs.Common.{◌≡◌, ◌≢◌, ◌∙◌, sym, ap, subst, refl, ℕ, List, not, true, false, filter, arith}
-use Rattle.std.specs.Prelude.{All, Option, None, Some, option_map, filter_map, ◌==◌, ◌&&◌}
+use Rattle.std.specs.Prelude.{Option, None, Some, option_map, filter_map, ◌==◌, ◌&&◌}
 use Rattle.std.specs.Option.{option_map_or}
 use Rattle.std.proofs.lemmas.Bool.Decides.{nat_tests}
 use Rattle.std.proofs.lemmas.List.Elements.{All-weaker}
