@@ -1,5 +1,5 @@
 -- What is looked up of the leases, beside the least ticket of a jid, and whether moments are still to come.
-use Rattle.std.specs.Prelude.{ℕ, nat_lt, Bool, false, List, Option, option_map, bytes_eq, filter, filter_map, find, All, ◌<◌}
+use Rattle.std.specs.Prelude.{ℕ, ◌<◌, nat_lt, Bool, false, List, Option, option_map, bytes_eq, filter, filter_map, find, All}
 use Rattle.std.specs.Option.{option_map_or}
 use Rattle.fk_model.specs.declared.row.Row.{Row}
 use Rattle.fk_model.specs.declared.place.Place.{Place}

@@ -154,7 +154,6 @@ impl Sets {
     }
 
     /// Whether the moment of each row is beyond this one.
-    #[tactic(auto, unfolding(crate::specs::Sets::pairs_in, crate::specs::Sets::count_in))]
     pub(crate) fn is_later(&self, moment: u64) -> bool
         ensures { IsTrue result ↔ ((target : Target) → AreLater moment (pairs_in target self.now.items)) }
     {
