@@ -20,7 +20,7 @@ use Rattle.fk_model.proofs.Outcomes.{Outcome, ticket_in, told_by, new_rank}
 use Rattle.fk_model.proofs.Settling.{IsLater, IsLawful, AreRanked, AreOutcomes, IsAmong, IsPending}
 use Rattle.fk_model.proofs.Chosen.{IsChosen, AreOfTwo, IsIn, each_chosen}
 use Rattle.fk_model.proofs.Fates.{fate_unranked, failed_lawful}
-use Rattle.fk_model.proofs.Falling.{dead_moment, lease_moment, wait_moment, each_ended, all_due, all_due_once, all_due_stand, dead_not_queued, ended_not_queued, ended_works, waiting_not_queued}
+use Rattle.fk_model.proofs.Falling.{dead_moment, lease_moment, wait_moment, each_ended, all_due, all_due_once, all_due_stand, dead_not_queued, ended_not_queued, ended_works, waiting_not_queued, waiting_idle}
 
 -- ---- what becomes of the rows of each list
 
@@ -186,6 +186,7 @@ due_lawful kept moment word well =
       of_job = tt;
       idle = tt;
       changes = λ same. absurd (cc);
+      unranked = λ there. refl;
     }) (each_chosen dead_moment moment kept.rows well.by_ticket))
     (failing_all IsLawful (IsChosen lease_moment moment kept.rows) expiry moment word (expired kept moment)
     (λ filed is. failed_lawful expiry moment word filed (ended_works moment kept.rows filed is)
@@ -198,6 +199,7 @@ due_lawful kept moment word well =
       of_job = (refl, refl);
       idle = refl;
       changes = waiting_changes moment rank (row_of filed) (waiting_not_queued moment kept.rows filed is);
+      unranked = λ there. absurd (waiting_idle moment kept.rows filed is there);
     }) (each_chosen wait_moment moment kept.rows well.by_ticket))
 
 pub are_outcomes : (kept : KeptState) (moment word : ℕ) → IsWellKept kept

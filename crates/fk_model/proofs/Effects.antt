@@ -19,6 +19,7 @@ use Rattle.fk_model.specs.Turns.{move_to}
 use Rattle.fk_model.proofs.Filed.{changed_at}
 use Rattle.fk_model.proofs.Lookups.{row_at_changed, row_at_without}
 use Rattle.fk_model.proofs.Tickets.{all_changed, all_without, row_holds}
+use Rattle.fk_model.proofs.Orderly.{IsOrderly, orderly}
 use Rattle.fk_model.proofs.Leading.{AreRowsOf, HasNumbers}
 use Rattle.fk_model.proofs.Waiting.{IsFirstRow, IsLeased, not_queued}
 
@@ -52,7 +53,7 @@ told_change : Row → ℕ → List ℕ → Row → Row
 told_change row moment wid =
     put_row row.stamp.enqueued row.stamp.failure (reserved_row moment wid row).place
 
-handed_rows : (kept : KeptState) (moment : ℕ) (wid : List ℕ) (filed : ℕ × Row) → IsWellKept kept
+handed_rows : (kept : KeptState) (moment : ℕ) (wid : List ℕ) (filed : ℕ × Row) → IsOrderly kept
     → IsFirstRow kept filed
     → (reserved moment wid kept (ticket_of filed)).rows ≡ (after_move kept (handing moment wid filed)).rows
 unfolding after_move
@@ -64,7 +65,7 @@ handed_rows kept moment wid filed well first =
     (reserved_row moment wid (row_of filed)).place)
     (row_of filed) well.by_ticket first.stands)
 
-handed_changes : (kept : KeptState) (moment : ℕ) (wid : List ℕ) (filed : ℕ × Row) → IsWellKept kept
+handed_changes : (kept : KeptState) (moment : ℕ) (wid : List ℕ) (filed : ℕ × Row) → IsOrderly kept
     → IsFirstRow kept filed → reserved moment wid kept (ticket_of filed) ≡ kept → ⊥
 handed_changes kept moment wid filed well first same =
     let rows : with_changed kept.rows (ticket_of filed) (reserved_row moment wid) ≡ kept.rows =
@@ -80,7 +81,7 @@ handed_changes kept moment wid filed well first same =
     let waits = first.waits in
     absurd (cc)
 
-pub handed_are_rows : (kept : KeptState) (moment : ℕ) (wid : List ℕ) (filed : ℕ × Row) → IsWellKept kept
+pub handed_are_rows : (kept : KeptState) (moment : ℕ) (wid : List ℕ) (filed : ℕ × Row) → IsOrderly kept
     → IsFirstRow kept filed
     → AreRowsOf kept (handing moment wid filed ∷ []) (reserved moment wid kept (ticket_of filed))
 handed_are_rows kept moment wid filed well first = record {
@@ -97,7 +98,7 @@ handed_above : (kept : KeptState) (moment : ℕ) (wid : List ℕ) (filed : ℕ �
 handed_above kept moment wid filed well first =
     let before = row_holds (λ x. ticket_of x < kept.next) kept.rows (ticket_of filed) (row_of filed)
     well.above.tickets first.stands in
-    rw (← handed_rows kept moment wid filed well first)
+    rw (← handed_rows kept moment wid filed (orderly kept well) first)
     (record {
       tickets = all_changed (λ x. ticket_of x < kept.next) kept.rows (ticket_of filed)
           (reserved_row moment wid) (row_of filed) well.by_ticket first.stands well.above.tickets before;

@@ -15,9 +15,10 @@ use Rattle.fk_model.specs.Between.{IsWellKept}
 use Rattle.fk_model.specs.Changes.{IsTotals}
 use Rattle.fk_model.specs.Failing.{Reason, failure_of, fate_of, failed_row, failed}
 use Rattle.fk_model.specs.Bringing.{moves_of_failed}
-use Rattle.fk_model.specs.Said.{ok, only_said, kept_and_said}
-use Rattle.fk_model.specs.Fails.{unknown_job, fail_effect, moves_of_fail}
+use Rattle.fk_model.specs.Said.{ok, only_said, kept_and_said, unknown_job, fail_effect}
+use Rattle.fk_model.specs.Turns.{moves_of_fail}
 use Rattle.fk_model.proofs.Tickets.{row_holds}
+use Rattle.fk_model.proofs.Orderly.{IsOrderly, orderly}
 use Rattle.fk_model.proofs.Leading.{AreRowsOf, HasNumbers}
 use Rattle.fk_model.proofs.Waiting.{IsLeased, leased_is, not_queued}
 use Rattle.fk_model.proofs.Effects.{nothing_is_rows, nothing_has_numbers}
@@ -30,7 +31,7 @@ use Rattle.fk_model.proofs.UpToDate.{move_plain, told_next, failed_words}
 abbrev fallen : Reason → ℕ → ℕ → ℕ × Row → Outcome
 fallen reason moment word filed = record { filed = filed; becomes = failed_row reason moment word filed }
 
-one_outcome : (kept : KeptState) (reason : Reason) (moment word : ℕ) (filed : ℕ × Row) → IsWellKept kept
+one_outcome : (kept : KeptState) (reason : Reason) (moment word : ℕ) (filed : ℕ × Row) → IsOrderly kept
     → IsLeased kept filed
     → AreOutcomes kept.next kept.next kept.rows (fallen reason moment word filed ∷ [])
 one_outcome kept reason moment word filed well held =
@@ -47,7 +48,7 @@ one_outcome kept reason moment word filed well held =
       ranked = rw (fate_unranked filed (failure_of reason moment word filed) (fate_of moment word filed)) (tt, refl);
     }
 
-one_row : (kept : KeptState) (reason : Reason) (moment word : ℕ) (filed : ℕ × Row) → IsWellKept kept
+one_row : (kept : KeptState) (reason : Reason) (moment word : ℕ) (filed : ℕ × Row) → IsOrderly kept
     → IsLeased kept filed
     → AreRowsOf kept (moves_of_failed reason moment word (filed ∷ [])) (failed reason moment word kept filed)
 one_row kept reason moment word filed well held =
@@ -67,7 +68,7 @@ one_number : (kept : KeptState) (reason : Reason) (moment word : ℕ) (filed : �
     → HasNumbers kept (moves_of_failed reason moment word (filed ∷ [])) (failed reason moment word kept filed)
 one_number kept reason moment word filed well texts told room held =
     let one = fallen reason moment word filed in
-    let are = one_outcome kept reason moment word filed well held in
+    let are = one_outcome kept reason moment word filed (orderly kept well) held in
     let stays = told_next kept (one ∷ []) in
     let words = failed_words reason moment word kept (filed ∷ []) well.processed well.failures in
     record {
@@ -94,7 +95,7 @@ after_fail s reason moment word found =
     (option_map_or (λ filed. kept_and_said s (failed reason moment word s.kept filed) ok) found
     (only_said s unknown_job)).state.kept
 
-rows_if : (s : State) (reason : Reason) (moment word : ℕ) (found : Option (ℕ × Row)) → IsWellKept s.kept
+rows_if : (s : State) (reason : Reason) (moment word : ℕ) (found : Option (ℕ × Row)) → IsOrderly s.kept
     → ((filed : ℕ × Row) → found ≡ Some filed → IsLeased s.kept filed)
     → AreRowsOf s.kept (moves_of_failed reason moment word (option_to_list found))
     (after_fail s reason moment word found)
@@ -111,7 +112,7 @@ numbers_if s reason moment word None well texts told room held = nothing_has_num
 numbers_if s reason moment word (Some filed) well texts told room held =
     one_number s.kept reason moment word filed well texts told room (held filed refl)
 
-pub fail_rows : (s : State) (jid : List ℕ) (reason : Reason) (moment word : ℕ) → IsWellKept s.kept
+pub fail_rows : (s : State) (jid : List ℕ) (reason : Reason) (moment word : ℕ) → IsOrderly s.kept
     → AreRowsOf s.kept (moves_of_fail s.kept jid reason moment word)
     (fail_effect s jid reason moment word).state.kept
 fail_rows s jid reason moment word well =
@@ -125,3 +126,13 @@ pub fail_numbers : (s : State) (jid : List ℕ) (reason : Reason) (moment word :
 fail_numbers s jid reason moment word well texts told room =
     numbers_if s reason moment word (leased s.kept jid) well texts told room
     (λ filed at. leased_is s.kept jid filed well.by_ticket at)
+
+next_if : (s : State) (reason : Reason) (moment word : ℕ) (found : Option (ℕ × Row))
+    → (after_fail s reason moment word found).next ≡ s.kept.next
+next_if s reason moment word None = refl
+next_if s reason moment word (Some filed) = refl
+
+-- a FAIL takes no number
+pub fail_next : (s : State) (jid : List ℕ) (reason : Reason) (moment word : ℕ)
+    → (fail_effect s jid reason moment word).state.kept.next ≡ s.kept.next
+fail_next s jid reason moment word = next_if s reason moment word (leased s.kept jid)

@@ -45,6 +45,13 @@ lease_alone (Retry when) at e = absurd (cc)
 lease_alone (Dead until) at e = absurd (cc)
 lease_alone (Working wid since until) at e = (refl, refl, λ queued. absurd (cc))
 
+wait_idle : (place : Place) (at : ℕ) → waits_until place ≡ Some at → is_working place ≡ true → ⊥
+wait_idle (Queued rank) at e works = absurd (cc)
+wait_idle (Scheduled when) at e works = absurd (cc)
+wait_idle (Retry when) at e works = absurd (cc)
+wait_idle (Dead until) at e works = absurd (cc)
+wait_idle (Working wid since until) at e works = absurd (cc)
+
 wait_alone : (place : Place) (at : ℕ) → waits_until place ≡ Some at → ¬ IsTrue (is_queued place)
 wait_alone (Queued rank) at e = absurd (cc)
 wait_alone (Scheduled when) at e = λ queued. absurd (cc)
@@ -187,6 +194,10 @@ ended_works moment rows filed is = (lease_alone (row_of filed).place is.at is.ha
 pub waiting_not_queued : (moment : ℕ) (rows : List (ℕ × Row)) (filed : ℕ × Row)
     → IsChosen wait_moment moment rows filed → ¬ IsTrue (is_queued (row_of filed).place)
 waiting_not_queued moment rows filed is = wait_alone (row_of filed).place is.at is.has
+
+pub waiting_idle : (moment : ℕ) (rows : List (ℕ × Row)) (filed : ℕ × Row)
+    → IsChosen wait_moment moment rows filed → is_working (row_of filed).place ≡ true → ⊥
+waiting_idle moment rows filed is works = wait_idle (row_of filed).place is.at is.has works
 
 -- ---- no row that is due is left out
 

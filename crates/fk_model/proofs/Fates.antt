@@ -126,18 +126,26 @@ lawful_by : (filed : ℕ × Row) (failure : Failure) (one : Fate) → is_working
     → ¬ IsTrue (is_queued (row_of filed).place)
     → IsLawful (record { filed = filed; becomes = row_by filed failure one })
 lawful_by filed failure fate.Drop works apart =
-    record { apart = apart; of_job = tt; idle = tt; changes = fate_changes filed failure fate.Drop works }
+    record {
+      apart = apart;
+      of_job = tt;
+      idle = tt;
+      changes = fate_changes filed failure fate.Drop works;
+      unranked = λ there. refl;
+    }
 lawful_by filed failure (fate.Retry at) works apart = record {
   apart = apart;
   of_job = (refl, refl);
   idle = refl;
   changes = fate_changes filed failure (fate.Retry at) works;
+  unranked = λ there. refl;
 }
 lawful_by filed failure (fate.Dead until) works apart = record {
   apart = apart;
   of_job = (refl, refl);
   idle = refl;
   changes = fate_changes filed failure (fate.Dead until) works;
+  unranked = λ there. refl;
 }
 
 pub failed_lawful : (reason : Reason) (moment word : ℕ) (filed : ℕ × Row) → is_working (row_of filed).place ≡ true

@@ -26,8 +26,8 @@ pub mod SoundMoves
 pub mod Leading
 pub mod Pushes
 pub mod Waiting
+pub mod Orderly
 pub mod Effects
-pub mod Requested
 pub mod Outcomes
 pub mod Settling
 pub mod Chosen
@@ -36,6 +36,10 @@ pub mod Falling
 pub mod BroughtUp
 pub mod UpToDate
 pub mod FailMoves
+pub mod Requested
+pub mod Composed
+pub mod NothingDue
+pub mod Untouched
 pub mod Turning
 pub mod BetweenTurns
 pub mod Onward

@@ -16,7 +16,7 @@ use Rattle.fk_job.specs.Spellings.{HasJobSpelling, IsMoment}
 use Rattle.fk_model.specs.Spellings.{IsWord, HasRowSpelling}
 use Rattle.fk_model.specs.Between.{IsAboveAll}
 use Rattle.fk_model.specs.Changes.{after_move, after_moves, ComesLast, Fits, FitInTurn, IsTotals}
-use Rattle.fk_model.specs.Requests.{due_at, is_later, pushed_row, all_pushed}
+use Rattle.fk_model.specs.Requests.{due_at, is_later, pushed_row, pushed, all_pushed}
 use Rattle.fk_model.specs.Turns.{moves_of_push}
 use Rattle.fk_model.proofs.Tickets.{all_with, none_above}
 use Rattle.fk_model.proofs.Queues.{ranks_hold}
@@ -195,3 +195,10 @@ pushes_have_numbers moment jobs kept within spelled room above processed failure
       processed = rw (ap (λ (k : KeptState). k.processed) whole, numbers.1) processed;
       failures = rw (ap (λ (k : KeptState). k.failures) whole, numbers.2) failures;
     }
+
+-- jobs that are pushed don't lower the next number
+pub pushes_grow : (moment : ℕ) (jobs : List Job) (kept : KeptState)
+    → kept.next ≤ (all_pushed moment kept jobs).next
+pushes_grow moment [] kept = omega arith
+pushes_grow moment (job ∷ jobs) kept =
+    let rest = pushes_grow moment jobs (pushed moment kept job) in omega (arith, rest)

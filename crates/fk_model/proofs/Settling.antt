@@ -1,7 +1,7 @@
 -- Rows that become others or leave, one behind the other and each once: the moves that tell it fit and lead
 -- to those rows, and nothing is due that wasn't among them.
-use Rattle.std.proofs.Common.{◌≡◌, ◌≢◌, ◌⊎◌, ◌∙◌, sym, ap, refl, ℕ, ◌<◌, List, [], ◌∷◌, inl, inr, map, false}
-use Rattle.std.specs.Prelude.{All, AllPairs, Some, IfSome, IsTrue, fold, slice_index_or}
+use Rattle.std.proofs.Common.{◌≡◌, ◌≢◌, ◌⊎◌, ◌∙◌, sym, ap, refl, ℕ, ◌<◌, List, [], ◌∷◌, inl, inr, map, true, false}
+use Rattle.std.specs.Prelude.{All, AllPairs, None, Some, IfSome, IsTrue, fold, slice_index_or}
 use Rattle.std.proofs.lemmas.Option.{IfSome_then}
 use Rattle.std.proofs.lemmas.List.Elements.{All-head, All-tail}
 use Rattle.fk_model.specs.declared.row.Row.{Row}
@@ -28,6 +28,7 @@ pub record IsLawful (one : Outcome) : Type 0 where
   pub of_job : IsOfJob (row_in one) one.becomes
   pub idle : IfSome one.becomes (λ row. is_working row.place ≡ false)
   pub changes : one.becomes ≢ Some (row_in one)
+  pub unranked : is_working (row_in one).place ≡ true → new_rank one.becomes ≡ None
 
 -- its move can be written
 abbrev pub IsSpelled : Outcome → Type 0
@@ -52,7 +53,7 @@ pub record AreOutcomes (n m : ℕ) (rows : List (ℕ × Row)) (all : List Outcom
   pub lawful : All IsLawful all
   pub ranked : AreRanked n all m
 
-first_lower : (n m : ℕ) (rows : List (ℕ × Row)) (one : Outcome) (all : List Outcome)
+pub first_lower : (n m : ℕ) (rows : List (ℕ × Row)) (one : Outcome) (all : List Outcome)
     → AreOutcomes n m rows (one ∷ all) → ticket_in one < n
 first_lower n m rows one all are =
     row_holds (λ x. ticket_of x < n) rows (ticket_in one) (row_in one) are.higher.tickets
@@ -169,14 +170,20 @@ others_stay rows (one ∷ all) ticket by_ticket apart =
     ∙ outcome_other rows (ticket_in one) one.becomes ticket by_ticket
     (All-head (λ x. ticket ≢ ticket_in x) one all apart)
 
+-- what the first row has become
+pub first_becomes : (n m : ℕ) (rows : List (ℕ × Row)) (one : Outcome) (all : List Outcome)
+    → AreOutcomes n m rows (one ∷ all)
+    → row_at (fold rows_with rows (one ∷ all)) (ticket_in one) ≡ one.becomes
+first_becomes n m rows one all are =
+    others_stay (rows_with rows one) all (ticket_in one)
+    (outcome_by_ticket rows (ticket_in one) one.becomes are.by_ticket)
+    (head_of_all (λ x y. ticket_in x ≢ ticket_in y) one all are.once)
+    ∙ outcome_here rows (ticket_in one) one.becomes
+
 -- where there are any, the rows change
 pub outcomes_change : (n m : ℕ) (rows : List (ℕ × Row)) (one : Outcome) (all : List Outcome)
     → AreOutcomes n m rows (one ∷ all) → fold rows_with rows (one ∷ all) ≡ rows → ⊥
 outcomes_change n m rows one all are same =
     let before = All-head (λ x. row_at rows (ticket_in x) ≡ Some (row_in x)) one all are.stand in
     (All-head IsLawful one all are.lawful).changes
-    (sym (outcome_here rows (ticket_in one) one.becomes)
-    ∙ sym (others_stay (rows_with rows one) all (ticket_in one)
-    (outcome_by_ticket rows (ticket_in one) one.becomes are.by_ticket)
-    (head_of_all (λ x y. ticket_in x ≢ ticket_in y) one all are.once))
-    ∙ ap (λ xs. row_at xs (ticket_in one)) same ∙ before)
+    (sym (first_becomes n m rows one all are) ∙ ap (λ xs. row_at xs (ticket_in one)) same ∙ before)

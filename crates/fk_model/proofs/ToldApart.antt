@@ -1,5 +1,5 @@
 -- No reply that a turn says has the bytes of an answer of a turn that couldn't be made.
-use Rattle.std.proofs.Common.{◌≡◌, ◌≢◌, ℕ, zero, suc, ◌<◌, List, codes, Bool, true, false, Option, None, Some, arith, refl, sym, ◌∙◌, ap, if◌then◌else◌}
+use Rattle.std.proofs.Common.{◌≡◌, ◌≢◌, ℕ, zero, suc, ◌<◌, List, codes, Option, None, Some, arith, refl, sym, ◌∙◌, ap}
 use Rattle.std.specs.Prelude.{slice_index, slice_index_or}
 use Rattle.std.specs.Option.{option_map_or}
 use Rattle.fk_frame.specs.declared.reply.Reply.{Reply}
@@ -7,13 +7,15 @@ use Rattle.fk_frame.specs.declared.reply.Reply.TheVariants.{Status, Bulk, Nil}
 use Rattle.fk_frame.specs.Replies.{reply_bytes}
 use Rattle.fk_model.specs.declared.row.Row.{Row}
 use Rattle.fk_model.specs.declared.ask.Ask.{Ask}
-use Rattle.fk_model.specs.declared.ask.Ask.TheVariants.{Push, PushBatch, Fetch, Ack}
+use Rattle.fk_model.specs.declared.ask.Ask.TheVariants.{Push, PushBatch, Fetch, Ack, Fail}
 use Rattle.fk_job.specs.RowText.{row_text}
 use Rattle.fk_model.specs.Rows.{row_of}
 use Rattle.fk_model.specs.State.{State}
+use Rattle.fk_model.specs.Orders.{leased}
+use Rattle.fk_model.specs.Failing.{Reason, failed}
 use Rattle.fk_model.specs.Requests.{fetched}
-use Rattle.fk_model.specs.Said.{not_served, only_said, handed_out, effect_of, is_served}
-use Rattle.fk_model.specs.Turns.{turn}
+use Rattle.fk_model.specs.Said.{not_served, only_said, kept_and_said, handed_out, ok, unknown_job, said}
+use Rattle.fk_model.specs.Turns.{up_to_date, turn}
 use Rattle.fk_model.specs.Answers.{turn_texts, IsToldApart}
 
 -- the first byte tells: each of those answers begins with `-`
@@ -56,18 +58,23 @@ a_fetch : (s : State) (moment : ℕ) (wid : List ℕ) (row : Option (ℕ × Row)
 a_fetch s moment wid None = no_value
 a_fetch s moment wid (Some filed) = a_bulk (row_text (row_of filed).job (row_of filed).stamp)
 
-an_effect : (s : State) (ask : Ask) (moment word : ℕ) → IsToldApart (effect_of s ask moment word).reply
-unfolding effect_of
-an_effect s (Push job) moment word = a_status (codes "OK")
-an_effect s (PushBatch jobs told) moment word = a_bulk told
-an_effect s (Fetch wid queues) moment word = a_fetch s moment wid (fetched s wid queues)
-an_effect s (Ack jid) moment word = a_status (codes "OK")
-an_effect s other moment word = what_is_not_served
+-- a failure says OK, or that the job isn't known
+a_fail : (s : State) (reason : Reason) (moment word : ℕ) (row : Option (ℕ × Row))
+    → IsToldApart (option_map_or (λ filed. kept_and_said s (failed reason moment word s.kept filed) ok) row
+    (only_said s unknown_job)).reply
+a_fail s reason moment word None = an_error unknown_job 85 refl (omega arith) (omega arith) (omega arith)
+a_fail s reason moment word (Some filed) = a_status (codes "OK")
 
-a_choice : (s : State) (ask : Ask) (moment word : ℕ) (served : Bool)
-    → IsToldApart (if served then effect_of s ask moment word else only_said s not_served).reply
-a_choice s ask moment word true = an_effect s ask moment word
-a_choice s ask moment word false = what_is_not_served
+what_is_said : (s : State) (ask : Ask) (moment word : ℕ) → IsToldApart (said s ask moment word).reply
+unfolding said
+what_is_said s (Push job) moment word = a_status (codes "OK")
+what_is_said s (PushBatch jobs told) moment word = a_bulk told
+what_is_said s (Fetch wid queues) moment word = a_fetch s moment wid (fetched s wid queues)
+what_is_said s (Ack jid) moment word = a_status (codes "OK")
+what_is_said s (Fail jid errtype message backtrace) moment word =
+    a_fail s (record { errtype = errtype; message = message; backtrace = backtrace }) moment word
+    (leased s.kept jid)
+what_is_said s other moment word = what_is_not_served
 
 pub a_turn : (s : State) (ask : Ask) (moment word : ℕ) → IsToldApart (turn s ask moment word).reply
-a_turn s ask moment word = a_choice s ask moment word (is_served moment ask)
+a_turn s ask moment word = what_is_said (up_to_date s moment word) ask moment word

@@ -1,12 +1,13 @@
 -- The kept state brought up to a moment is what the moves lead to, nothing is due in it, and it is well kept.
-use Rattle.std.proofs.Common.{◌≡◌, ◌∙◌, sym, ap, refl, ℕ, ◌<◌, ◌≤◌, ◌+◌, List, [], ◌∷◌, ◌++◌, map, length, arith}
+use Rattle.std.proofs.Common.{IfSome, ◌≡◌, ◌∙◌, sym, ap, refl, ℕ, ◌<◌, ◌≤◌, ◌+◌, List, [], ◌∷◌, ◌++◌, map, length, arith}
 use Rattle.std.specs.Prelude.{All, Option, None, Some, fold, slice_index_or}
-use Rattle.std.proofs.lemmas.List.Elements.{All-map}
+use Rattle.std.proofs.lemmas.List.Elements.{All-head, All-tail, All-map}
+use Rattle.std.proofs.lemmas.Option.{IfSome_then}
 use Rattle.fk_time.specs.Moments.{greatest}
 use Rattle.fk_model.specs.declared.row.Row.{Row}
 use Rattle.fk_model.specs.declared.move_.Move.TheVariants.{Add}
 use Rattle.fk_model.specs.Limits.{greatest_next}
-use Rattle.fk_model.specs.Rows.{ticket_of, row_of}
+use Rattle.fk_model.specs.Rows.{ticket_of, row_of, IsByTicket}
 use Rattle.fk_model.specs.State.{KeptState}
 use Rattle.fk_model.specs.Spellings.{IsWord, HasSpelling}
 use Rattle.fk_model.specs.Between.{IsWellKept}
@@ -15,8 +16,9 @@ use Rattle.fk_model.specs.Due.{IsUpToDate, over, expired, due}
 use Rattle.fk_model.specs.Failing.{Reason, expiry, failed}
 use Rattle.fk_model.specs.Bringing.{forgotten, enqueued, brought_up, move_for, moves_of_forgotten, moves_of_failed, moves_of_enqueued, moves_up}
 use Rattle.fk_model.proofs.Tickets.{row_holds}
+use Rattle.fk_model.proofs.Orderly.{HasJob, IsOrderly, orderly}
 use Rattle.fk_model.proofs.Leading.{AreRowsOf, HasNumbers}
-use Rattle.fk_model.proofs.Outcomes.{Outcome, ticket_in, told_by, rows_with}
+use Rattle.fk_model.proofs.Outcomes.{Outcome, ticket_in, row_in, told_by, rows_with, outcome_by_ticket, outcome_all}
 use Rattle.fk_model.proofs.Settling.{IsSpelled, StaysOn, AreOutcomes, outcomes_rows, outcomes_fit, outcomes_above, outcomes_later, outcomes_change}
 use Rattle.fk_model.proofs.Chosen.{IsChosen, each_chosen}
 use Rattle.fk_model.proofs.Fates.{expiry_is, failed_spelled, failed_on}
@@ -95,7 +97,7 @@ until_words kept moment word well =
     (rw (forgotten_is kept (over kept moment)) well.processed)
     (rw (forgotten_is kept (over kept moment)) well.failures)
 
-up_rows : (kept : KeptState) (moment word : ℕ)
+pub up_rows : (kept : KeptState) (moment word : ℕ)
     → (brought_up kept moment word).rows ≡ fold rows_with kept.rows (outcomes_due kept moment word)
 up_rows kept moment word =
     let first = leaving (over kept moment) in
@@ -248,3 +250,45 @@ up_has_numbers kept moment word well told within =
       processed = words.0;
       failures = words.1;
     })
+
+-- ---- whatever the moment, and however great the next number
+
+outcomes_ordered : (rows : List (ℕ × Row)) (all : List Outcome) → IsByTicket rows
+    → IsByTicket (fold rows_with rows all)
+outcomes_ordered rows [] by_ticket = by_ticket
+outcomes_ordered rows (one ∷ all) by_ticket =
+    outcomes_ordered (rows_with rows one) all (outcome_by_ticket rows (ticket_in one) one.becomes by_ticket)
+
+-- what becomes of a row is of a job that can be written
+abbrev IsOfGood : Outcome → Type 0
+IsOfGood one = IfSome one.becomes (λ row. HasJob (ticket_in one, row))
+
+outcomes_jobs : (rows : List (ℕ × Row)) (all : List Outcome) → All HasJob rows → All IsOfGood all
+    → All HasJob (fold rows_with rows all)
+outcomes_jobs rows [] each good = each
+outcomes_jobs rows (one ∷ all) each good =
+    outcomes_jobs (rows_with rows one) all
+    (outcome_all HasJob HasJob rows (ticket_in one) one.becomes (λ x apart has. has) each
+    (All-head IsOfGood one all good)) (All-tail IsOfGood one all good)
+
+good_of : (n m : ℕ) (rows : List (ℕ × Row)) (all : List Outcome) → AreOutcomes n m rows all → All HasJob rows
+    → All IsOfGood all
+good_of n m rows all are each = λ k d within.
+    let one = slice_index_or all k d in
+    let had = row_holds HasJob rows (ticket_in one) (row_in one) each (are.stand k d within) in
+    IfSome_then one.becomes (are.lawful k d within).of_job (λ row same. rw same.0 had)
+
+pub up_orderly : (kept : KeptState) (moment word : ℕ) → IsWellKept kept
+    → IsOrderly (brought_up kept moment word)
+up_orderly kept moment word well =
+    let all = outcomes_due kept moment word in
+    let are = are_outcomes kept moment word well in
+    let m = kept.next + length (due kept moment) in
+    let jobs = (orderly kept well).jobs in
+    record {
+      by_ticket = rw (up_rows kept moment word) (outcomes_ordered kept.rows all well.by_ticket);
+      above = rw (up_next kept moment word, up_rows kept moment word)
+          (outcomes_above kept.next m kept.rows all are);
+      jobs = rw (up_rows kept moment word)
+          (outcomes_jobs kept.rows all jobs (good_of kept.next m kept.rows all are jobs));
+    }

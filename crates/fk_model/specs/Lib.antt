@@ -16,7 +16,6 @@ pub mod Due
 pub mod Bringing
 pub mod Requests
 pub mod Said
-pub mod Fails
 pub mod Turns
 pub mod Answers
 pub mod Out

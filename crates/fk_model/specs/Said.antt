@@ -1,17 +1,17 @@
 -- What is said to a request in a state that is up to date, and the state that it leaves.
-use Rattle.std.specs.Prelude.{ℕ, not, Bool, true, false, if◌then◌else◌, List, codes}
-use Rattle.std.specs.List.{list_any}
+use Rattle.std.specs.Prelude.{ℕ, List, codes}
 use Rattle.std.specs.Option.{option_map_or}
 use Rattle.fk_frame.specs.declared.reply.Reply.{Reply}
 use Rattle.fk_frame.specs.declared.reply.Reply.TheVariants.{Status, Error, Bulk, Nil}
 use Rattle.fk_job.specs.RowText.{row_text}
 use Rattle.fk_model.specs.declared.row.Row.{Row}
 use Rattle.fk_model.specs.declared.ask.Ask.{Ask}
-use Rattle.fk_model.specs.declared.ask.Ask.TheVariants.{Push, PushBatch, Fetch, Ack}
+use Rattle.fk_model.specs.declared.ask.Ask.TheVariants.{Push, PushBatch, Fetch, Ack, Fail}
 use Rattle.fk_model.specs.Rows.{ticket_of, row_of}
 use Rattle.fk_model.specs.State.{KeptState, State}
 use Rattle.fk_model.specs.Orders.{leased}
-use Rattle.fk_model.specs.Requests.{is_later, pushed, all_pushed, fetched, reserved, finished}
+use Rattle.fk_model.specs.Failing.{Reason, failed}
+use Rattle.fk_model.specs.Requests.{pushed, all_pushed, fetched, reserved, finished}
 
 -- what a request does: the state that it leaves, and what is said to it
 pub record Effect : Type 0 where
@@ -48,27 +48,24 @@ abbrev pub ack_effect : State → List ℕ → Effect
 ack_effect state jid =
     kept_and_said state (option_map_or (finished state.kept) (leased state.kept jid) state.kept) ok
 
--- what a request does, by the moment and the word of its turn; the last line goes with the last
--- request
-unfoldable pub effect_of : State → Ask → ℕ → ℕ → Effect
-effect_of state (Push job) moment word = kept_and_said state (pushed moment state.kept job) ok
-effect_of state (PushBatch jobs told) moment word =
+-- what is said of a jid of which no worker has a row
+abbrev pub unknown_job : Reply
+unknown_job = Error (codes "ERR Unknown job")
+
+-- a failure: of the rows of that jid that workers have, the one of the least ticket meets its fate
+abbrev pub fail_effect : State → List ℕ → Reason → ℕ → ℕ → Effect
+fail_effect state jid reason moment word =
+    option_map_or (λ filed. kept_and_said state (failed reason moment word state.kept filed) ok)
+    (leased state.kept jid) (only_said state unknown_job)
+
+-- what is said to a request, and the state that it leaves, by the moment and the word of its turn; one that
+-- isn't served yet changes nothing, and the last line goes with the last request
+unfoldable pub said : State → Ask → ℕ → ℕ → Effect
+said state (Push job) moment word = kept_and_said state (pushed moment state.kept job) ok
+said state (PushBatch jobs told) moment word =
     kept_and_said state (all_pushed moment state.kept jobs) (Bulk told)
-effect_of state (Fetch wid queues) moment word = fetch_effect state wid queues moment
-effect_of state (Ack jid) moment word = ack_effect state jid
-effect_of state other moment word = only_said state not_served
-
--- which requests are served yet: pushes of jobs that aren't due later, fetches and acknowledgements
-abbrev pub is_served : ℕ → Ask → Bool
-is_served moment (Push job) = not (is_later moment job)
-is_served moment (PushBatch jobs told) = not (list_any (is_later moment) jobs)
-is_served moment (Fetch wid queues) = true
-is_served moment (Ack jid) = true
-is_served moment other = false
-
--- what is said to a request, and the state that it leaves: one that isn't served yet changes nothing
-abbrev pub said : State → Ask → ℕ → ℕ → Effect
-said state ask moment word =
-    if is_served moment ask
-    then effect_of state ask moment word
-    else only_said state not_served
+said state (Fetch wid queues) moment word = fetch_effect state wid queues moment
+said state (Ack jid) moment word = ack_effect state jid
+said state (Fail jid errtype message backtrace) moment word =
+    fail_effect state jid (record { errtype = errtype; message = message; backtrace = backtrace }) moment word
+said state other moment word = only_said state not_served

@@ -1,31 +1,29 @@
 -- One turn: the state is brought up to date, and then the request acts.
-use Rattle.std.specs.Prelude.{ℕ, if◌then◌else◌, List, [], ◌∷◌, ◌++◌, map, option_to_list}
+use Rattle.std.specs.Prelude.{ℕ, List, [], ◌∷◌, ◌++◌, map, option_to_list}
 use Rattle.std.specs.List.{enumerate_from}
 use Rattle.fk_job.specs.declared.job.Job.{Job}
 use Rattle.fk_model.specs.declared.row.Row.{Row}
 use Rattle.fk_model.specs.declared.ask.Ask.{Ask}
-use Rattle.fk_model.specs.declared.ask.Ask.TheVariants.{Push, PushBatch, Fetch, Ack}
+use Rattle.fk_model.specs.declared.ask.Ask.TheVariants.{Push, PushBatch, Fetch, Ack, Fail}
 use Rattle.fk_model.specs.declared.move_.Move.{Move}
 use Rattle.fk_model.specs.declared.move_.Move.TheVariants.{Add, Put, Drop, Totals}
 use Rattle.fk_model.specs.Rows.{ticket_of, row_of}
 use Rattle.fk_model.specs.State.{KeptState, State}
 use Rattle.fk_model.specs.Orders.{leased}
+use Rattle.fk_model.specs.Failing.{Reason}
+use Rattle.fk_model.specs.Bringing.{brought_up, moves_of_failed, moves_up}
 use Rattle.fk_model.specs.Requests.{pushed_row, reserved_row, fetched}
-use Rattle.fk_model.specs.Said.{Effect, is_served, said}
+use Rattle.fk_model.specs.Said.{Effect, said}
 
--- the state brought up to the moment of a turn: nothing falls due by time alone yet
+-- the state brought up to the moment of a turn
 abbrev pub up_to_date : State → ℕ → ℕ → State
-up_to_date state moment word = state
+up_to_date state moment word = record state { kept = brought_up state.kept moment word }
 
 -- what a turn does, by its moment and its word
 abbrev pub turn : State → Ask → ℕ → ℕ → Effect
 turn state ask moment word = said (up_to_date state moment word) ask moment word
 
 -- ---- the moves of a turn
-
--- the moves by which the state is brought up to date
-abbrev pub moves_due : State → ℕ → ℕ → List Move
-moves_due state moment word = []
 
 -- a new row for each job, under the tickets from a number on
 abbrev pub moves_of_push : ℕ → ℕ → List Job → List Move
@@ -37,6 +35,11 @@ moves_of_push moment next jobs =
 abbrev pub move_to : ℕ → Row → Move
 move_to ticket row = Put ticket row.stamp.enqueued row.stamp.failure row.place
 
+-- of the rows of that jid that workers have, the one of the least ticket meets its fate
+abbrev pub moves_of_fail : KeptState → List ℕ → Reason → ℕ → ℕ → List Move
+moves_of_fail kept jid reason moment word =
+    moves_of_failed reason moment word (option_to_list (leased kept jid))
+
 -- what a request changes, row by row, in a state that was brought up to date from another kept state,
 -- which no request of today looks at; the last line goes with the last request
 unfoldable pub moves_of : KeptState → State → Ask → ℕ → ℕ → List Move
@@ -47,12 +50,9 @@ moves_of before state (Fetch wid queues) moment word =
     (option_to_list (fetched state wid queues))
 moves_of before state (Ack jid) moment word =
     map (λ filed. Drop (ticket_of filed)) (option_to_list (leased state.kept jid))
+moves_of before state (Fail jid errtype message backtrace) moment word =
+    moves_of_fail state.kept jid (record { errtype = errtype; message = message; backtrace = backtrace }) moment word
 moves_of before state other moment word = []
-
--- the moves of what is said: a request that isn't served yet has none
-abbrev pub moves_said : KeptState → State → Ask → ℕ → ℕ → List Move
-moves_said before state ask moment word =
-    if is_served moment ask then moves_of before state ask moment word else []
 
 -- the numbers of a kept state
 abbrev pub totals : KeptState → Move
@@ -68,6 +68,6 @@ closed (move ∷ moves) kept = (move ∷ moves) ++ totals kept ∷ []
 abbrev pub moves_of_turn : State → Ask → ℕ → ℕ → List Move
 moves_of_turn state ask moment word =
     closed
-    (moves_due state moment word
-    ++ moves_said state.kept (up_to_date state moment word) ask moment word)
+    (moves_up state.kept moment word
+    ++ moves_of state.kept (up_to_date state moment word) ask moment word)
     (turn state ask moment word).state.kept

@@ -21,8 +21,8 @@ ghost use Rattle.fk_model.specs.Changes.{after_moves, EndsWithTotals, Lead};
 ghost use Rattle.fk_model.specs.Failing.{Reason};
 ghost use Rattle.fk_model.specs.Due.{IsUpToDate};
 ghost use Rattle.fk_model.specs.Bringing.{brought_up, moves_up};
-ghost use Rattle.fk_model.specs.Fails.{fail_effect, moves_of_fail};
-ghost use Rattle.fk_model.specs.Turns.{closed, moves_of_turn, turn};
+ghost use Rattle.fk_model.specs.Said.{fail_effect};
+ghost use Rattle.fk_model.specs.Turns.{closed, moves_of_fail, moves_of_turn, turn};
 ghost use Rattle.fk_model.specs.Answers.{IsToldApart};
 ghost use Rattle.fk_model.specs.History.{IsLegalFrom, IsOverLimit, faults_after, state_after};
 ghost use Rattle.fk_model.specs.Out.{asks_of, own_replies};
@@ -118,6 +118,12 @@ pub fn the_moves_of_a_fail_lead_to_its_state()
 {}
 
 // ---- a turn
+
+/// A turn leaves nothing due at its moment.
+pub fn a_turn_leaves_nothing_due()
+    ensures { (s : State) (ask : AnAsk) (moment word : ℕ) → IsBetweenTurns s → moment < greatest
+        → IsUpToDate moment (turn s ask moment word).state.kept }
+{}
 
 /// A turn that isn't over its limit keeps what holds between turns.
 pub fn a_turn_keeps_what_holds_between_turns()
