@@ -1,5 +1,5 @@
--- What a PUSH, a PUSHB, a FETCH and an ACK ask for is in range, where what serde_json decodes or writes of it
--- is a text.
+-- What a PUSH, a PUSHB, a FETCH, an ACK and a FAIL ask for is in range, where what serde_json decodes or
+-- writes of it is a text.
 use Rattle.std.proofs.Common.{◌≡◌, inl, inr, ℕ, ◌<◌, ◌≤◌, List, [], ◌∷◌, length, filter, slice_range, codes, Option, None, Some, sym, subst, arith}
 use Rattle.std.specs.Prelude.{All}
 use Rattle.std.specs.List.{slice_split}
@@ -14,11 +14,11 @@ use Rattle.fk_frame.specs.Lines.{longest_line}
 use Rattle.fk_job.specs.Spellings.{HasJobSpelling, IsText}
 use Rattle.fk_job.proofs.JobSpelled.{job_spelled}
 use Rattle.fk_model.specs.declared.ask.Ask.{Ask}
-use Rattle.fk_model.specs.declared.ask.Ask.TheVariants.{Push, PushBatch, Fetch, Ack}
+use Rattle.fk_model.specs.declared.ask.Ask.TheVariants.{Push, PushBatch, Fetch, Ack, Fail}
 use Rattle.fk_model.specs.declared.item.Item.{Item}
 use Rattle.fk_model.specs.declared.item.Item.TheVariants.{Asks}
 use Rattle.fk_model.specs.Commands.{is_space}
-use Rattle.fk_model.specs.Payloads.{AreElements, Element, IsBatch, IsFetched, IsPushed, acknowledged, barred, is_some_text, jobs_among, or_default, queue_names, refused, string_among, taken}
+use Rattle.fk_model.specs.Payloads.{AreElements, Element, IsBatch, IsFetched, IsPushed, acknowledged, barred, is_some_text, jobs_among, or_default, queue_names, refused, reported, string_among, string_or_unknown, strings_among, taken}
 use Rattle.fk_model.specs.Range.{AreJobs, HasJsonTexts, IsInRange}
 use Rattle.fk_model.specs.Out.{asks_of}
 use Rattle.fk_model.specs.Spellings.{AreTexts}
@@ -147,3 +147,19 @@ pub ack_askable : (found : Option Members)
     → AreAskable (option_map_or acknowledged found (refused (codes "Bad JSON")) ∷ [])
 ack_askable None = none_askable
 ack_askable (Some members) = jid_askable (string_among (codes "jid") members)
+
+-- ---- a FAIL
+
+report_askable : (jid : Option (List ℕ)) (errtype message : List ℕ) (backtrace : List (List ℕ))
+    → AreAskable (option_map_or (λ jid. Asks (Fail jid errtype message backtrace)) jid
+    (refused (codes "No jid")) ∷ [])
+report_askable None errtype message backtrace = none_askable
+report_askable (Some jid) errtype message backtrace =
+    one_askable (Fail jid errtype message backtrace) (λ are. are)
+
+pub fail_askable : (found : Option Members)
+    → AreAskable (option_map_or reported found (refused (codes "Bad JSON")) ∷ [])
+fail_askable None = none_askable
+fail_askable (Some members) =
+    report_askable (string_among (codes "jid") members) (string_or_unknown (codes "errtype") members)
+    (string_or_unknown (codes "message") members) (strings_among (codes "backtrace") members)

@@ -20,10 +20,10 @@ use Rattle.fk_model.specs.declared.item.Phase.TheVariants.{Greeted, Accepted, Ov
 use Rattle.fk_model.specs.Commands.{arguments, is_plain_hello, is_space}
 use Rattle.fk_model.specs.Payloads.{accepted, object_read}
 use Rattle.fk_model.specs.Range.{HasJsonTexts, IsInRange}
-use Rattle.fk_model.specs.Script.{AreGiven, AreItemsFrom, AreItemsOf, Command, IsGiven, IsScript, ack, batch, command_of, end, fetch, handshake_items, hello, not_served, phase_after, push, unknown}
+use Rattle.fk_model.specs.Script.{AreGiven, AreItemsFrom, AreItemsOf, Command, IsGiven, IsScript, ack, batch, command_of, end, fail, fetch, handshake_items, hello, not_served, phase_after, push, unknown}
 use Rattle.fk_model.specs.Out.{asks_of}
 use Rattle.fk_model.proofs.Outs.{asks_of-append}
-use Rattle.fk_model.proofs.AskRange.{AreAskable, IsAskable, FitsLine, ack_askable, as_it, batch_askable, fetch_askable, none_askable, push_askable}
+use Rattle.fk_model.proofs.AskRange.{AreAskable, IsAskable, FitsLine, ack_askable, as_it, batch_askable, fail_askable, fetch_askable, none_askable, push_askable}
 use Rattle.fk_model.proofs.Parted.{IsUpTo, behind_up_to, split_up_to}
 
 -- ---- a line
@@ -39,6 +39,7 @@ before_hello line push = none_askable
 before_hello line batch = none_askable
 before_hello line fetch = none_askable
 before_hello line ack = none_askable
+before_hello line fail = none_askable
 before_hello line unknown = none_askable
 
 command_askable : (command : Command) (text : List ℕ) (item : Item) → FitsLine text → IsGiven command text item
@@ -49,6 +50,7 @@ command_askable push text item is given = push_askable text item is given
 command_askable batch text item is given = batch_askable text item is given
 command_askable fetch text item is given = fetch_askable text item is given
 command_askable ack text item is given = as_it item _ given (ack_askable (object_read text))
+command_askable fail text item is given = as_it item _ given (fail_askable (object_read text))
 command_askable unknown text item is given = as_it item _ given none_askable
 
 -- one thing is given for a line
@@ -68,6 +70,7 @@ all_given_askable push text items is given = given_askable push text items is gi
 all_given_askable batch text items is given = given_askable batch text items is given
 all_given_askable fetch text items is given = given_askable fetch text items is given
 all_given_askable ack text items is given = given_askable ack text items is given
+all_given_askable fail text items is given = given_askable fail text items is given
 all_given_askable unknown text items is given = given_askable unknown text items is given
 
 -- a line whose bytes are no more than a line may have

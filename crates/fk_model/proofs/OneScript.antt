@@ -19,7 +19,7 @@ use Rattle.fk_model.specs.declared.item.Phase.{Phase}
 use Rattle.fk_model.specs.declared.item.Phase.TheVariants.{Greeted, Accepted, Over}
 use Rattle.fk_model.specs.Commands.{arguments}
 use Rattle.fk_model.specs.Payloads.{AreElements, Element, HasKey, IsBatch, IsElement, IsPushed, barred, batch_text, fault_text, jobs_among, refused, taken}
-use Rattle.fk_model.specs.Script.{AreGiven, AreItemsFrom, AreItemsOf, Command, IsGiven, IsScript, ack, batch, command_of, end, fetch, hello, phase_after, push, unknown}
+use Rattle.fk_model.specs.Script.{AreGiven, AreItemsFrom, AreItemsOf, Command, IsGiven, IsScript, ack, batch, command_of, end, fail, fetch, hello, phase_after, push, unknown}
 use Rattle.fk_model.proofs.Payload.{laws}
 use Rattle.fk_model.proofs.Total.{script_total}
 
@@ -106,6 +106,7 @@ given_one push text one other is also = push_one text one other is also
 given_one batch text one other is also = batch_one text one other is also
 given_one fetch text one other is also = is ∙ sym also
 given_one ack text one other is also = is ∙ sym also
+given_one fail text one other is also = is ∙ sym also
 given_one unknown text one other is also = is ∙ sym also
 
 -- one thing is given for a line
@@ -125,6 +126,7 @@ command_one push text one other is also = one_given push text one other is also
 command_one batch text one other is also = one_given batch text one other is also
 command_one fetch text one other is also = one_given fetch text one other is also
 command_one ack text one other is also = one_given ack text one other is also
+command_one fail text one other is also = one_given fail text one other is also
 command_one unknown text one other is also = one_given unknown text one other is also
 
 line_one : (phase : Phase) (line : Line) (one other : List Item) → AreItemsOf phase line one

@@ -12,7 +12,7 @@ use Rattle.fk_frame.specs.Lines.{lines_of}
 use Rattle.fk_frame.specs.Replies.{reply_bytes}
 use Rattle.fk_job.specs.declared.fault.JobFault.{JobFault}
 use Rattle.fk_job.specs.declared.fault.JobFault.TheVariants.{NoJid, ShortJid, NoType, NoArgs, BadQueue, BadReserve, BadRetry, BadAt, Syntax, TooDeep, NoMemory}
-use Rattle.fk_model.specs.declared.ask.Ask.TheVariants.{Ack}
+use Rattle.fk_model.specs.declared.ask.Ask.TheVariants.{Ack, Fail}
 use Rattle.fk_model.specs.declared.item.Item.{Item}
 use Rattle.fk_model.specs.declared.item.Item.TheVariants.{Own, Asks}
 use Rattle.fk_model.specs.declared.item.Phase.{Phase}
@@ -20,8 +20,8 @@ use Rattle.fk_model.specs.declared.item.Phase.TheVariants.{Greeted, Accepted, Ov
 use Rattle.fk_model.specs.Answers.{IsToldApart}
 use Rattle.fk_model.specs.Commands.{arguments, is_plain_hello}
 use Rattle.fk_model.specs.Out.{own_replies}
-use Rattle.fk_model.specs.Payloads.{IsBatch, IsPushed, accepted, acknowledged, fault_text, object_read, refused, string_among}
-use Rattle.fk_model.specs.Script.{AreGiven, AreItemsFrom, AreItemsOf, Command, IsGiven, IsScript, ack, batch, command_of, end, fetch, handshake_items, hello, hello_first, not_served, phase_after, push, too_long, unknown}
+use Rattle.fk_model.specs.Payloads.{IsBatch, IsPushed, accepted, acknowledged, fault_text, object_read, refused, reported, string_among, string_or_unknown, strings_among}
+use Rattle.fk_model.specs.Script.{AreGiven, AreItemsFrom, AreItemsOf, Command, IsGiven, IsScript, ack, batch, command_of, end, fail, fetch, handshake_items, hello, hello_first, not_served, phase_after, push, too_long, unknown}
 use Rattle.fk_model.proofs.Outs.{own_replies-append}
 use Rattle.fk_model.proofs.ToldApart.{a_status, an_error}
 
@@ -80,15 +80,31 @@ a_batch text item (inl (spans, elements, is, are, same)) = as_it item _ same (Al
 a_batch text item (inr (inl (at, fails, same))) = as_it item _ same bad_json
 a_batch text item (inr (inr (at, deep, same))) = as_it item _ same json_too_deep
 
+no_jid : AreApart (refused (codes "No jid") ∷ [])
+no_jid = by_byte (codes "No jid") 78 refl (omega arith) (omega arith) (omega arith)
+
 a_jid : (jid : Option (List ℕ))
     → AreApart (option_map_or (λ jid. Asks (Ack jid)) jid (refused (codes "No jid")) ∷ [])
-a_jid None = by_byte (codes "No jid") 78 refl (omega arith) (omega arith) (omega arith)
+a_jid None = no_jid
 a_jid (Some jid) = All-nil IsToldApart
 
 an_ack : (found : Option Members)
     → AreApart (option_map_or acknowledged found (refused (codes "Bad JSON")) ∷ [])
 an_ack None = bad_json
 an_ack (Some members) = a_jid (string_among (codes "jid") members)
+
+a_report : (jid : Option (List ℕ)) (errtype message : List ℕ) (backtrace : List (List ℕ))
+    → AreApart (option_map_or (λ jid. Asks (Fail jid errtype message backtrace)) jid
+    (refused (codes "No jid")) ∷ [])
+a_report None errtype message backtrace = no_jid
+a_report (Some jid) errtype message backtrace = All-nil IsToldApart
+
+a_fail : (found : Option Members)
+    → AreApart (option_map_or reported found (refused (codes "Bad JSON")) ∷ [])
+a_fail None = bad_json
+a_fail (Some members) =
+    a_report (string_among (codes "jid") members) (string_or_unknown (codes "errtype") members)
+    (string_or_unknown (codes "message") members) (strings_among (codes "backtrace") members)
 
 a_hello : (plain : Bool) → AreApart ((if plain then accepted else not_served) ∷ [])
 a_hello true = own_one _ (a_status (codes "OK"))
@@ -101,6 +117,7 @@ before_hello line push = a_command_before
 before_hello line batch = a_command_before
 before_hello line fetch = a_command_before
 before_hello line ack = a_command_before
+before_hello line fail = a_command_before
 before_hello line unknown = a_command_before
 
 a_command : (command : Command) (text : List ℕ) (item : Item) → IsGiven command text item
@@ -111,6 +128,7 @@ a_command push text item is = a_push text item is
 a_command batch text item is = a_batch text item is
 a_command fetch text item is = as_it item _ is (All-nil IsToldApart)
 a_command ack text item is = as_it item _ is (an_ack (object_read text))
+a_command fail text item is = as_it item _ is (a_fail (object_read text))
 a_command unknown text item is =
     as_it item _ is (by_byte (codes "Unknown command") 85 refl (omega arith) (omega arith) (omega arith))
 
@@ -125,6 +143,7 @@ behind_hello push text items (item, is, same) = as_they items _ same (a_command 
 behind_hello batch text items (item, is, same) = as_they items _ same (a_command batch text item is)
 behind_hello fetch text items (item, is, same) = as_they items _ same (a_command fetch text item is)
 behind_hello ack text items (item, is, same) = as_they items _ same (a_command ack text item is)
+behind_hello fail text items (item, is, same) = as_they items _ same (a_command fail text item is)
 behind_hello unknown text items (item, is, same) = as_they items _ same (a_command unknown text item is)
 
 a_line : (phase : Phase) (line : Line) (items : List Item) → AreItemsOf phase line items → AreApart items

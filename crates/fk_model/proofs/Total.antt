@@ -19,8 +19,8 @@ use Rattle.fk_model.specs.declared.item.Item.TheVariants.{Asks}
 use Rattle.fk_model.specs.declared.item.Phase.{Phase}
 use Rattle.fk_model.specs.declared.item.Phase.TheVariants.{Greeted, Accepted, Over}
 use Rattle.fk_model.specs.Commands.{arguments}
-use Rattle.fk_model.specs.Payloads.{Element, taken, barred, fault_text, refused, acknowledged, batch_text, jobs_among, object_read, queue_names, HasKey, IsElement, AreElements, IsPushed, IsBatch}
-use Rattle.fk_model.specs.Script.{Command, end, hello, push, batch, fetch, ack, unknown, command_of, handshake_items, not_served, too_long, phase_after, AreGiven, AreItemsOf, AreItemsFrom}
+use Rattle.fk_model.specs.Payloads.{Element, taken, barred, fault_text, refused, acknowledged, reported, batch_text, jobs_among, object_read, queue_names, HasKey, IsElement, AreElements, IsPushed, IsBatch}
+use Rattle.fk_model.specs.Script.{Command, end, hello, push, batch, fetch, ack, fail, unknown, command_of, handshake_items, not_served, too_long, phase_after, AreGiven, AreItemsOf, AreItemsFrom}
 
 -- ---- what is decided of texts
 
@@ -139,6 +139,9 @@ given_total laws fetch arguments =
     let item = Asks (Fetch [] (queue_names arguments)) in (item ∷ [], (item, refl, refl))
 given_total laws ack arguments =
     let item = option_map_or acknowledged (object_read arguments) (refused (codes "Bad JSON")) in
+    (item ∷ [], (item, refl, refl))
+given_total laws fail arguments =
+    let item = option_map_or reported (object_read arguments) (refused (codes "Bad JSON")) in
     (item ∷ [], (item, refl, refl))
 given_total laws unknown arguments =
     let reply = refused (codes "Unknown command") in (reply ∷ [], (reply, refl, refl))

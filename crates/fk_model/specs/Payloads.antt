@@ -1,11 +1,12 @@
--- What a PUSH, a PUSHB, a FETCH and an ACK give, after Faktory's protocol specification: what a turn
--- is asked for, or a refusal. The texts are this server's own.
-use Rattle.std.specs.Prelude.{◌≡◌, ◌⊎◌, ℕ, List, [], ◌∷◌, ◌++◌, length, nat_lt, Bool, if◌then◌else◌, Option, None, option_and_then, filter, codes, slice_range}
-use Rattle.std.specs.List.{slice_split}
+-- What a PUSH, a PUSHB, a FETCH, an ACK and a FAIL give, after Faktory's protocol specification: what a
+-- turn is asked for, or a refusal. The texts are this server's own.
+use Rattle.std.specs.Prelude.{◌≡◌, ◌⊎◌, ℕ, List, [], ◌∷◌, ◌++◌, length, nat_lt, Bool, if◌then◌else◌, Option, None, option_and_then, unwrap_or, filter, codes, slice_range}
+use Rattle.std.specs.List.{filter_map, slice_split}
 use Rattle.std.specs.Option.{option_map_or}
 use Rattle.std.specs.Str.{is_utf8}
-use Rattle.serde_json.specs.Data.{Data, Members, no_members, object, put, string}
-use Rattle.serde_json.specs.Find.{as_object, as_str, get_member}
+use Rattle.serde_json.specs.Data as json
+use Rattle.serde_json.specs.Data.{Data, Items, Members, no_members, object, put, string}
+use Rattle.serde_json.specs.Find.{as_array, as_object, as_str, get_member}
 use Rattle.serde_json.specs.Read.{read}
 use Rattle.serde_json.specs.Written.{compact_text}
 use Rattle.fk_json.specs.declared.member.Member.{Member}
@@ -17,7 +18,7 @@ use Rattle.fk_job.specs.declared.fault.JobFault.{JobFault}
 use Rattle.fk_job.specs.declared.fault.JobFault.TheVariants.{NoJid, ShortJid, NoType, NoArgs, BadQueue, BadReserve, BadRetry, BadAt, Syntax, TooDeep, NoMemory}
 use Rattle.fk_job.specs.Fields.{HasString, default_queue}
 use Rattle.fk_job.specs.JobText.{HasFault, HasJid, IsJobOf}
-use Rattle.fk_model.specs.declared.ask.Ask.TheVariants.{Push, PushBatch, Fetch, Ack}
+use Rattle.fk_model.specs.declared.ask.Ask.TheVariants.{Push, PushBatch, Fetch, Ack, Fail}
 use Rattle.fk_model.specs.declared.item.Item.{Item}
 use Rattle.fk_model.specs.declared.item.Item.TheVariants.{Own, Asks}
 use Rattle.fk_model.specs.Commands.{is_space}
@@ -126,7 +127,7 @@ queue_names arguments = or_default (filter is_some_text (slice_split is_space ar
 abbrev pub IsFetched : List ℕ → Item → Type 0
 IsFetched arguments item = item ≡ Asks (Fetch [] (queue_names arguments))
 
--- ---- a job that was done
+-- ---- the object of a command's arguments
 
 -- the value that serde_json reads a text as, which has to be UTF-8
 abbrev pub value_read : List ℕ → Option Data
@@ -140,6 +141,8 @@ object_read text = option_and_then as_object (value_read text)
 abbrev pub string_among : List ℕ → Members → Option (List ℕ)
 string_among name members = option_and_then as_str (get_member name members)
 
+-- ---- a job that was done
+
 -- what an ACK of an object gives: its jid is acknowledged
 abbrev pub acknowledged : Members → Item
 acknowledged members =
@@ -150,3 +153,35 @@ acknowledged members =
 abbrev pub IsAcknowledged : List ℕ → Item → Type 0
 IsAcknowledged arguments item =
     item ≡ option_map_or acknowledged (object_read arguments) (refused (codes "Bad JSON"))
+
+-- ---- a job that failed
+
+-- the string of this name among the members, or `unknown` where there is none
+abbrev pub string_or_unknown : List ℕ → Members → List ℕ
+string_or_unknown name members = unwrap_or (string_among name members) (codes "unknown")
+
+-- the elements of an array, in order
+abbrev pub elements : Items → List Data
+elements json.no_items = []
+elements (json.item element items) = element ∷ elements items
+
+-- the elements of the array of this name among the members, or none where there is no array
+abbrev pub elements_among : List ℕ → Members → List Data
+elements_among name members =
+    option_map_or elements (option_and_then as_array (get_member name members)) []
+
+-- the strings among them
+abbrev pub strings_among : List ℕ → Members → List (List ℕ)
+strings_among name members = filter_map as_str (elements_among name members)
+
+-- what a FAIL of an object gives: the job of its jid failed, for the reason that it tells
+abbrev pub reported : Members → Item
+reported members =
+    option_map_or (λ jid. Asks (Fail jid (string_or_unknown (codes "errtype") members)
+    (string_or_unknown (codes "message") members) (strings_among (codes "backtrace") members)))
+    (string_among (codes "jid") members) (refused (codes "No jid"))
+
+-- a FAIL reports the jid of its arguments, or is refused where they are no object
+abbrev pub IsReported : List ℕ → Item → Type 0
+IsReported arguments item =
+    item ≡ option_map_or reported (object_read arguments) (refused (codes "Bad JSON"))

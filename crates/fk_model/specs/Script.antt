@@ -9,7 +9,7 @@ use Rattle.fk_model.specs.declared.item.Item.{Item}
 use Rattle.fk_model.specs.declared.item.Phase.{Phase}
 use Rattle.fk_model.specs.declared.item.Phase.TheVariants.{Greeted, Accepted, Over}
 use Rattle.fk_model.specs.Commands.{arguments, has_verb, is_plain_hello}
-use Rattle.fk_model.specs.Payloads.{IsAcknowledged, IsBatch, IsFetched, IsPushed, accepted, refused}
+use Rattle.fk_model.specs.Payloads.{IsAcknowledged, IsBatch, IsFetched, IsPushed, IsReported, accepted, refused}
 
 -- the server speaks first
 abbrev pub greeting : List ℕ
@@ -32,6 +32,7 @@ pub data Command : Type 0 where
   batch : Command
   fetch : Command
   ack : Command
+  fail : Command
   unknown : Command
 
 abbrev pub command_of : List ℕ → Command
@@ -41,7 +42,8 @@ command_of line =
     (if has_verb (codes "PUSH") line then push else
     (if has_verb (codes "PUSHB") line then batch else
     (if has_verb (codes "FETCH") line then fetch else
-    (if has_verb (codes "ACK") line then ack else unknown)))))
+    (if has_verb (codes "ACK") line then ack else
+    (if has_verb (codes "FAIL") line then fail else unknown))))))
 
 -- what is answered to another command before a HELLO was accepted
 abbrev pub hello_first : Item
@@ -55,6 +57,7 @@ handshake_items line push = hello_first ∷ []
 handshake_items line batch = hello_first ∷ []
 handshake_items line fetch = hello_first ∷ []
 handshake_items line ack = hello_first ∷ []
+handshake_items line fail = hello_first ∷ []
 handshake_items line unknown = hello_first ∷ []
 
 -- what a command gives behind an accepted HELLO, with these arguments
@@ -65,6 +68,7 @@ IsGiven push arguments item = IsPushed arguments item
 IsGiven batch arguments item = IsBatch arguments item
 IsGiven fetch arguments item = IsFetched arguments item
 IsGiven ack arguments item = IsAcknowledged arguments item
+IsGiven fail arguments item = IsReported arguments item
 IsGiven unknown arguments item = item ≡ refused (codes "Unknown command")
 
 abbrev pub AreGiven : Command → List ℕ → List Item → Type 0
