@@ -1,5 +1,5 @@
 -- Turns one behind the other, and the steps that a turn may be.
-use Rattle.std.proofs.Common.{◌≡◌, ◌↔◌, ℕ, Bool, true, false, if◌then◌else◌, ◌-◌, ◌<◌, ◌≤◌, List, [], ◌∷◌, ◌++◌, length, Option, None, Some, refl, sym, ◌∙◌, ap, arith, rules}
+use Rattle.std.proofs.Common.{◌≡◌, ◌↔◌, ℕ, Bool, true, false, ◌-◌, ◌<◌, ◌≤◌, List, [], ◌∷◌, ◌++◌, length, Option, None, Some, refl, sym, ◌∙◌, ap, arith, rules}
 use Rattle.std.specs.Prelude.{IsTrue, slice_get}
 use Rattle.std.proofs.lemmas.Bool.{false≢true}
 use Rattle.std.specs.List.{IsDistinct}
@@ -14,7 +14,7 @@ use Rattle.fk_frame.specs.declared.reply.Reply.TheVariants.{Nil}
 use Rattle.fk_frame.specs.Replies.{IsWellFormed}
 use Rattle.fk_time.specs.Moments.{greatest}
 use Rattle.fk_model.specs.declared.ask.Ask.{Ask}
-use Rattle.fk_model.specs.declared.ask.Ask.TheVariants.{Push, PushBatch, Fetch, Ack}
+use Rattle.fk_model.specs.declared.ask.Ask.TheVariants.{Push, PushBatch, Fetch, Ack, Fail}
 use Rattle.fk_model.specs.declared.answer.Answer.{Answer}
 use Rattle.fk_model.specs.declared.answer.Answer.TheVariants.{Said, NoMemory, Full, DiskFault}
 use Rattle.fk_model.specs.declared.told.Compaction.TheVariants.{NotDue}
@@ -27,9 +27,12 @@ use Rattle.fk_model.specs.State.{KeptState, State, without_workers}
 use Rattle.fk_model.specs.Between.{IsWellKept, IsBetweenTurns}
 use Rattle.fk_model.specs.Range.{IsInRange}
 use Rattle.fk_model.specs.Spellings.{IsWord}
+use Rattle.fk_model.specs.Orders.{leased}
+use Rattle.fk_model.specs.Failing.{Reason, failed}
+use Rattle.fk_model.specs.Bringing.{brought_up, moves_up}
 use Rattle.fk_model.specs.Requests.{fetched}
-use Rattle.fk_model.specs.Said.{effect_of, handed_out, is_served, not_served, only_said}
-use Rattle.fk_model.specs.Turns.{closed, moves_due, moves_of_turn, moves_said, totals, turn, up_to_date}
+use Rattle.fk_model.specs.Said.{Effect, handed_out, kept_and_said, ok, only_said, said, unknown_job}
+use Rattle.fk_model.specs.Turns.{closed, moves_of, moves_of_turn, totals, turn, up_to_date}
 use Rattle.fk_model.specs.Answers.{reply_of}
 use Rattle.fk_model.specs.History.{next_state, faults_after, IsTold, IsRightAnswer, IsStep, IsLegalFrom, IsOverLimit}
 use Rattle.fk_model.proofs.Outs.{out-own, out-asks}
@@ -76,39 +79,41 @@ turned_both old mid new xs ys first second =
 
 -- ---- one turn
 
--- no worker comes by a turn
+-- no worker is there behind what was done
+abbrev HasNoWorker : Effect → Type 0
+HasNoWorker effect = effect.state ≡ without_workers effect.state.kept
+
 none_fetched : (kept : KeptState) (moment : ℕ) (wid : List ℕ) (row : Option (ℕ × Row))
-    → (option_map_or (handed_out (without_workers kept) moment wid) row (only_said (without_workers kept) Nil)).state
-    ≡ without_workers
-    (option_map_or (handed_out (without_workers kept) moment wid) row (only_said (without_workers kept) Nil)).state.kept
+    → HasNoWorker (option_map_or (handed_out (without_workers kept) moment wid) row (only_said (without_workers kept) Nil))
 none_fetched kept moment wid None = refl
 none_fetched kept moment wid (Some filed) = refl
 
-none_by_effect : (kept : KeptState) (ask : Ask) (moment word : ℕ)
-    → (effect_of (without_workers kept) ask moment word).state
-    ≡ without_workers (effect_of (without_workers kept) ask moment word).state.kept
-unfolding effect_of
-none_by_effect kept (Push job) moment word = refl
-none_by_effect kept (PushBatch jobs told) moment word = refl
-none_by_effect kept (Fetch wid queues) moment word =
+none_failed : (kept : KeptState) (reason : Reason) (moment word : ℕ) (row : Option (ℕ × Row))
+    → HasNoWorker (option_map_or
+    (λ filed. kept_and_said (without_workers kept) (failed reason moment word kept filed) ok) row
+    (only_said (without_workers kept) unknown_job))
+none_failed kept reason moment word None = refl
+none_failed kept reason moment word (Some filed) = refl
+
+none_said : (kept : KeptState) (ask : Ask) (moment word : ℕ)
+    → HasNoWorker (said (without_workers kept) ask moment word)
+unfolding said
+none_said kept (Push job) moment word = refl
+none_said kept (PushBatch jobs told) moment word = refl
+none_said kept (Fetch wid queues) moment word =
     none_fetched kept moment wid (fetched (without_workers kept) wid queues)
-none_by_effect kept (Ack jid) moment word = refl
-none_by_effect kept other moment word = refl
+none_said kept (Ack jid) moment word = refl
+none_said kept (Fail jid errtype message backtrace) moment word =
+    none_failed kept (record { errtype = errtype; message = message; backtrace = backtrace }) moment word
+    (leased kept jid)
+none_said kept other moment word = refl
 
-none_by_choice : (kept : KeptState) (ask : Ask) (moment word : ℕ) (served : Bool)
-    → (if served then effect_of (without_workers kept) ask moment word
-    else only_said (without_workers kept) not_served).state
-    ≡ without_workers
-    (if served then effect_of (without_workers kept) ask moment word
-    else only_said (without_workers kept) not_served).state.kept
-none_by_choice kept ask moment word true = none_by_effect kept ask moment word
-none_by_choice kept ask moment word false = refl
-
+-- no worker comes by a turn
 pub no_worker_comes : (kept new : KeptState) (ask : Ask) (moment word : ℕ)
     → new ≡ (turn (without_workers kept) ask moment word).state.kept
     → without_workers new ≡ (turn (without_workers kept) ask moment word).state
 no_worker_comes kept new ask moment word same =
-    ap without_workers same ∙ sym (none_by_choice kept ask moment word (is_served moment ask))
+    ap without_workers same ∙ sym (none_said (brought_up kept moment word) ask moment word)
 
 -- what is told of a turn
 told_of_turn : (moment word : ℕ) → moment < greatest → IsWord word
@@ -199,7 +204,7 @@ limit_told : (s : State) (ask : Ask) (moment word : ℕ) (moves : List Move)
     → (moves ≡ [] → (turn s ask moment word).state.kept ≡ s.kept)
     → EndBeyond moves ↔ IsOverLimit s ask moment word
 limit_told s ask moment word moves are within stays =
-    rw are (end_of (moves_due s moment word ++ moves_said s.kept (up_to_date s moment word) ask moment word)
+    rw are (end_of (moves_up s.kept moment word ++ moves_of s.kept (up_to_date s moment word) ask moment word)
     s.kept (turn s ask moment word).state.kept within (rw are at stays))
 
 -- where the test of that end says so, it is
@@ -227,25 +232,29 @@ fetched_in_form : (s : State) (moment : ℕ) (wid : List ℕ) (row : Option (ℕ
 fetched_in_form s moment wid None = tt
 fetched_in_form s moment wid (Some filed) = tt
 
-effect_in_form : (s : State) (ask : Ask) (moment word : ℕ)
-    → IsWellFormed (effect_of s ask moment word).reply
-unfolding effect_of
-effect_in_form s (Push job) moment word = search rules
-effect_in_form s (PushBatch jobs told) moment word = tt
-effect_in_form s (Fetch wid queues) moment word = fetched_in_form s moment wid (fetched s wid queues)
-effect_in_form s (Ack jid) moment word = search rules
-effect_in_form s other moment word = search rules
+failed_in_form : (s : State) (reason : Reason) (moment word : ℕ) (row : Option (ℕ × Row))
+    → IsWellFormed (option_map_or (λ filed. kept_and_said s (failed reason moment word s.kept filed) ok) row
+    (only_said s unknown_job)).reply
+failed_in_form s reason moment word None = search rules
+failed_in_form s reason moment word (Some filed) = search rules
 
-choice_in_form : (s : State) (ask : Ask) (moment word : ℕ) (served : Bool)
-    → IsWellFormed (if served then effect_of s ask moment word else only_said s not_served).reply
-choice_in_form s ask moment word true = effect_in_form s ask moment word
-choice_in_form s ask moment word false = search rules
+said_in_form : (s : State) (ask : Ask) (moment word : ℕ) → IsWellFormed (said s ask moment word).reply
+unfolding said
+said_in_form s (Push job) moment word = search rules
+said_in_form s (PushBatch jobs told) moment word = tt
+said_in_form s (Fetch wid queues) moment word = fetched_in_form s moment wid (fetched s wid queues)
+said_in_form s (Ack jid) moment word = search rules
+said_in_form s (Fail jid errtype message backtrace) moment word =
+    failed_in_form s (record { errtype = errtype; message = message; backtrace = backtrace }) moment word
+    (leased s.kept jid)
+said_in_form s other moment word = search rules
 
 -- so is each answer that is right
 answer_in_form : (s : State) (entry : Entry) (answer : Answer) → IsRightAnswer s entry answer
     → IsWellFormed (reply_of answer)
 answer_in_form s entry (Said reply) right =
-    rw right.1 (choice_in_form s entry.ask entry.told.moment entry.told.word (is_served entry.told.moment entry.ask))
+    rw right.1
+    (said_in_form (up_to_date s entry.told.moment entry.told.word) entry.ask entry.told.moment entry.told.word)
 answer_in_form s entry NoMemory right = search rules
 answer_in_form s entry Full right = search rules
 answer_in_form s entry DiskFault right = absurd right
