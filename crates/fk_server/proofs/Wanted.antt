@@ -16,7 +16,7 @@ use Rattle.fk_model.specs.declared.item.Phase.TheVariants.{Greeted, Accepted, Ov
 use Rattle.fk_model.specs.Advance.{Advances}
 use Rattle.fk_model.specs.Commands.{arguments, has_verb}
 use Rattle.fk_model.specs.Out.{asks_of, out, output}
-use Rattle.fk_model.specs.Script.{AreGiven, AreItemsFrom, AreItemsOf, Command, ack, batch, command_of, end, fetch, handshake_items, hello, phase_after, push, unknown}
+use Rattle.fk_model.specs.Script.{AreGiven, AreItemsFrom, AreItemsOf, Command, ack, batch, command_of, end, fail, fetch, handshake_items, hello, phase_after, push, unknown}
 use Rattle.fk_model.proofs.Advance.{by_line, joined, over_is}
 use Rattle.fk_model.proofs.Outs.{asks_of-append}
 use Rattle.fk_server.specs.Turning.{answers_in, asks_in}
@@ -35,6 +35,7 @@ some_before_hello line push = inl (omega arith)
 some_before_hello line batch = inl (omega arith)
 some_before_hello line fetch = inl (omega arith)
 some_before_hello line ack = inl (omega arith)
+some_before_hello line fail = inl (omega arith)
 some_before_hello line unknown = inl (omega arith)
 
 one_is_some : (item : Item) (items : List Item) → items ≡ item ∷ [] → 0 < length items
@@ -48,27 +49,31 @@ some_given push text items (item, given, is) = inl (one_is_some item items is)
 some_given batch text items (item, given, is) = inl (one_is_some item items is)
 some_given fetch text items (item, given, is) = inl (one_is_some item items is)
 some_given ack text items (item, given, is) = inl (one_is_some item items is)
+some_given fail text items (item, given, is) = inl (one_is_some item items is)
 some_given unknown text items (item, given, is) = inl (one_is_some item items is)
 
 -- the first of the tests of a verb is that for END
-says_end : (is_end is_hello is_push is_batch is_fetch is_ack : Bool)
+says_end : (is_end is_hello is_push is_batch is_fetch is_ack is_fail : Bool)
     → (if is_end then end else
     (if is_hello then hello else
     (if is_push then push else
-    (if is_batch then batch else (if is_fetch then fetch else (if is_ack then ack else unknown))))))
+    (if is_batch then batch else
+    (if is_fetch then fetch else (if is_ack then ack else (if is_fail then fail else unknown)))))))
     ≡ end → is_end ≡ true
-says_end true is_hello is_push is_batch is_fetch is_ack is = refl
-says_end false true is_push is_batch is_fetch is_ack is = cc
-says_end false false true is_batch is_fetch is_ack is = cc
-says_end false false false true is_fetch is_ack is = cc
-says_end false false false false true is_ack is = cc
-says_end false false false false false true is = cc
-says_end false false false false false false is = cc
+says_end true is_hello is_push is_batch is_fetch is_ack is_fail is = refl
+says_end false true is_push is_batch is_fetch is_ack is_fail is = cc
+says_end false false true is_batch is_fetch is_ack is_fail is = cc
+says_end false false false true is_fetch is_ack is_fail is = cc
+says_end false false false false true is_ack is_fail is = cc
+says_end false false false false false true is_fail is = cc
+says_end false false false false false false true is = cc
+says_end false false false false false false false is = cc
 
 has_end : (line : List ℕ) → command_of line ≡ end → has_verb (codes "END") line ≡ true
 has_end line is =
     says_end (has_verb (codes "END") line) (has_verb (codes "HELLO") line) (has_verb (codes "PUSH") line)
-    (has_verb (codes "PUSHB") line) (has_verb (codes "FETCH") line) (has_verb (codes "ACK") line) is
+    (has_verb (codes "PUSHB") line) (has_verb (codes "FETCH") line) (has_verb (codes "ACK") line)
+    (has_verb (codes "FAIL") line) is
 
 ends_it : (phase : Phase) (line : List ℕ) → command_of line ≡ end → phase_after phase (Whole line) ≡ Over
 unfolding phase_after

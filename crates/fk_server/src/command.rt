@@ -14,6 +14,7 @@ pub(crate) enum Verb {
     Batch,
     Fetch,
     Ack,
+    Fail,
     Unknown,
 }
 
@@ -33,6 +34,8 @@ pub(crate) fn verb_in(line: &[u8]) -> Verb
         Verb::Fetch
     } else if verb == b"ACK".as_slice() {
         Verb::Ack
+    } else if verb == b"FAIL".as_slice() {
+        Verb::Fail
     } else {
         Verb::Unknown
     }

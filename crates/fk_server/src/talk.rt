@@ -11,6 +11,7 @@ ghost use Rattle.fk_server.specs.Verbs.{command};
 use crate::ack::acknowledge;
 use crate::batch::push_batch;
 use crate::command::{Verb, arguments_of, says_hello, verb_in, verb_of};
+use crate::fail::report;
 use crate::names::queue_names;
 use crate::refusal::{accept, job_or_fault, refuse, refuse_fault};
 use fk_json::Text;
@@ -84,9 +85,9 @@ fn before_hello(alloc: Global, verb: Verb, line: &[u8]) -> Option<Item>
         Verb::End => None,
         Verb::Hello if says_hello(line) => Some(accept(alloc)),
         Verb::Hello => Some(refuse(alloc, b"ERR Not served yet")),
-        Verb::Push | Verb::Batch | Verb::Fetch | Verb::Ack | Verb::Unknown => {
-            Some(refuse(alloc, b"ERR HELLO first"))
-        }
+        Verb::Push | Verb::Batch | Verb::Fetch | Verb::Ack | Verb::Fail | Verb::Unknown => Some(
+            refuse(alloc, b"ERR HELLO first"),
+        ),
     }
 }
 
@@ -103,6 +104,7 @@ fn behind_hello(alloc: Global, verb: Verb, line: &[u8]) -> Result<Option<Item>, 
         Verb::Batch => Ok(Some(push_batch(alloc, arguments_of(line))?)),
         Verb::Fetch => Ok(Some(fetch(alloc, arguments_of(line))?)),
         Verb::Ack => Ok(Some(acknowledge(alloc, arguments_of(line))?)),
+        Verb::Fail => Ok(Some(report(alloc, arguments_of(line))?)),
         Verb::Unknown => Ok(Some(refuse(alloc, b"ERR Unknown command"))),
     }
 }

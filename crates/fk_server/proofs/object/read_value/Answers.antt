@@ -1,5 +1,5 @@
 use Rattle.fk_server.proofs.ReadValues.{reads_none, reads_value, says_no}
-use Rattle.fk_server.proofs.ack.read_value.Goals as goal
+use Rattle.fk_server.proofs.object.read_value.Goals as goal
 
 pub returns-in-Ok : goal.returns-in-Ok
 returns-in-Ok c = reads_value c.args.text.now _ c.in-Ok.ensures.ok
