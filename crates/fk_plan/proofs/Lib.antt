@@ -6,3 +6,8 @@ pub mod Pushed
 pub mod Ahead
 pub mod Fetched
 pub mod Turned
+pub mod NextPair
+pub mod BothSets
+pub mod NothingDue
+pub mod DueNumbers
+pub mod DueMoves

@@ -86,7 +86,7 @@ fn hand_out(row: &Row, ticket: u64, wid: Text, moment: u64) -> Result<Move, Allo
 }
 
 /// An equal failure, if there is one.
-fn copied(failure: &Option<Failure>) -> Result<Option<Failure>, AllocError>
+pub(crate) fn copied(failure: &Option<Failure>) -> Result<Option<Failure>, AllocError>
     ensures { IfOk result (λ copy. copy ≡ failure.now) }
 {
     match failure {

@@ -2,7 +2,15 @@
 #![tactic(auto)]
 
 mod acknowledging;
+mod bringing;
+mod enqueuing;
+mod expiring;
+mod failing;
 mod fetching;
+mod forgetting;
+mod listing;
+mod merging;
+mod numbers;
 mod planning;
 mod pushing;
 mod replies;
