@@ -1,5 +1,6 @@
 -- The first row to fetch, by the first of the queues and those behind it.
-use Rattle.std.proofs.Common.{◌≡◌, ◌∙◌, sym, ap, refl, subst, ℕ, suc, ◌+◌, ◌<◌, List, [], ◌∷◌, ◌++◌, drop, length, get_or, add-one}
+use Rattle.std.proofs.Common.{◌≡◌, ◌∙◌, sym, ap, refl, subst, ℕ, suc, ◌+◌, ◌<◌, ◌≤◌, List, [], ◌∷◌, ◌++◌, drop, length, get_or, add-one}
+use Rattle.std.proofs.Math.ListN.{drop_of_length-le}
 use Rattle.std.proofs.Math.Seq.{drop-cons}
 use Rattle.std.specs.Prelude.{Option, None, Some, option_map, option_and_then, slice_get, flat_map}
 use Rattle.std.proofs.lemmas.Option.{slice_get_within, get_or_from_slice_get}
@@ -90,3 +91,9 @@ pub waits_past : (kept : KeptState) (names : List (List ℕ)) (at : ℕ) (name :
 waits_past kept names at name within here none =
     rw (left_from names at name within here)
     (sym (waits_behind kept name (drop (at + 1) names) none))
+
+-- none is left
+pub waits_nowhere : (kept : KeptState) (names : List (List ℕ)) (at : ℕ) → length names ≤ at
+    → None ≡ option_map ticket_of (first_waiting kept (drop at names))
+waits_nowhere kept names at past =
+    ap (λ left. option_map ticket_of (first_waiting kept left)) (sym (drop_of_length-le names past))

@@ -1,3 +1,4 @@
 pub mod Plans
 pub mod Upkeep
 pub mod Merging
+pub mod Arrivals

@@ -1,8 +1,12 @@
-// The plan of an acknowledgement.
-ghost use Rattle.std.specs.Prelude.{◌≡◌, ◌≤◌, ◌+◌, ℕ, [], length, IfOk, IsOk};
+// What an acknowledgement does.
+ghost use Rattle.std.specs.Prelude.{◌≡◌, ◌<◌, ◌≤◌, ◌+◌, ℕ, length, IfOk, IsOk};
+ghost use Rattle.fk_time.specs.Moments.{greatest};
 ghost use Rattle.fk_model.specs.declared.ask.Ask.TheVariants.{Ack};
-ghost use Rattle.fk_plan.specs.Plans.{IsPlan};
+ghost use Rattle.fk_model.specs.Between.{IsWellKept};
+ghost use Rattle.fk_model.specs.Bringing.{brought_up};
+ghost use Rattle.fk_plan.specs.Plans.{AreNumbersOf, IsDone};
 
+use crate::numbers::Numbers;
 use crate::replies::ok;
 use fk_core::Tables;
 use fk_frame::Reply;
@@ -10,28 +14,30 @@ use fk_json::Text;
 use fk_model::{Move, Moves};
 use std::alloc::{AllocError, Global};
 
-/// The job of a jid was done. Of the rows of that jid that workers have, the one of the least ticket
-/// leaves.
+/// The job of a jid was done. Of the rows of that jid that workers have beyond the moment, the one of the
+/// least ticket leaves.
 pub(crate) fn acknowledge(
     alloc: Global,
     tables: &Tables,
     jid: &Text,
+    moment: u64,
+    numbers: &mut Numbers,
     moves: &mut Moves,
 ) -> Result<Reply, AllocError>
-    requires { moves.old.items ≡ [] }
-    ensures ok { (moment word : ℕ) → IfOk result (λ reply.
-        IsPlan tables.now.kept (Ack jid.now) moment word reply moves.new.items) }
-    ensures room { moves.old.spare ≤ length moves.new.items + moves.new.spare }
-    ensures ready { 2 ≤ moves.old.spare → IsOk result }
+    requires moment { moment < greatest }
+    requires kept { IsWellKept tables.now.kept }
+    ensures ok { (word : ℕ) → AreNumbersOf (brought_up tables.now.kept moment word) numbers.old
+        → IfOk result (λ reply. IsDone tables.now.kept (brought_up tables.now.kept moment word)
+        (Ack jid.now) moment word reply moves.old.items moves.new.items numbers.new) }
+    ensures room { moves.old.spare + length moves.old.items
+        ≤ length moves.new.items + moves.new.spare }
+    ensures one { moves.old.spare ≤ moves.new.spare + 1 }
+    ensures ready { 0 < moves.old.spare → IsOk result }
 {
-    let Some(ticket) = tables.leased(jid) else {
+    let Some(ticket) = tables.leased_beyond(jid, moment) else {
         return Ok(ok(alloc));
     };
     moves.push(Move::Drop { ticket })?;
-    moves.push(Move::Totals {
-        next: tables.next(),
-        processed: tables.processed().saturating_add(1),
-        failures: tables.failures(),
-    })?;
+    numbers.processed = numbers.processed.saturating_add(1);
     Ok(ok(alloc))
 }

@@ -4,8 +4,8 @@ ghost use Rattle.fk_model.specs.Orders.{ticket_in};
 ghost use Rattle.fk_model.specs.Due.{rows_of};
 ghost use Rattle.fk_model.specs.Bringing.{move_for, moves_of_enqueued, waiting_row};
 
-use crate::fetching::copied;
 use fk_core::Tables;
+use fk_job::Failure;
 use fk_json::Pairs;
 use fk_model::{Move, Moves, Place, Row};
 use std::alloc::AllocError;
@@ -38,7 +38,7 @@ pub(crate) fn enqueue(
 }
 
 /// The ticket of the pair at a place.
-fn ticket_at(due: &Pairs, at: usize) -> u64
+pub(crate) fn ticket_at(due: &Pairs, at: usize) -> u64
     requires { at < length due.now.items }
     ensures { Some result ≡ option_map ticket_in (slice_get due.now.items at) }
 {
@@ -59,4 +59,14 @@ fn put_waiting(row: &Row, ticket: u64, rank: u64, moment: u64) -> Result<Move, A
         failure: copied(&row.stamp.failure)?,
         place: Place::Queued { rank },
     })
+}
+
+/// An equal failure, if there is one.
+fn copied(failure: &Option<Failure>) -> Result<Option<Failure>, AllocError>
+    ensures { IfOk result (λ copy. copy ≡ failure.now) }
+{
+    match failure {
+        None => Ok(None),
+        Some(failure) => Ok(Some(failure.copied()?)),
+    }
 }

@@ -2,7 +2,9 @@
 #![tactic(auto)]
 
 mod acknowledging;
+mod arriving;
 mod bringing;
+mod closing;
 mod enqueuing;
 mod expiring;
 mod failing;
@@ -14,5 +16,6 @@ mod numbers;
 mod planning;
 mod pushing;
 mod replies;
+mod reporting;
 
 pub use planning::plan;

@@ -1,17 +1,25 @@
-ghost use Rattle.std.specs.Prelude.{◌≡◌, ◌↔◌, ◌<◌, ◌≤◌, ◌+◌, [], length, true, IfOk, IsOk, OnErr, OnOk};
+ghost use Rattle.std.specs.Prelude.{◌≡◌, ◌↔◌, ◌<◌, ◌≤◌, ◌+◌, ◌^◌, [], length, true, IfOk, IsOk, OnErr, OnOk};
 ghost use Rattle.fk_time.specs.Moments.{greatest};
+ghost use Rattle.fk_model.specs.Limits.{greatest_next};
 ghost use Rattle.fk_model.specs.State.{without_workers};
 ghost use Rattle.fk_model.specs.Range.{IsInRange};
 ghost use Rattle.fk_model.specs.Between.{IsAboveAll, IsWellKept};
+ghost use Rattle.fk_model.specs.Due.{IsUpToDate};
 ghost use Rattle.fk_model.specs.Changes.{Lead};
+ghost use Rattle.fk_model.specs.Bringing.{brought_up};
 ghost use Rattle.fk_model.specs.Turns.{moves_of_turn, turn};
 ghost use Rattle.fk_model.specs.History.{IsOverLimit};
-ghost use Rattle.fk_plan.specs.Plans.{is_ack, IsPlan};
+ghost use Rattle.fk_plan.specs.Plans.{is_ack, IsDone, IsPlan};
+ghost use Rattle.fk_plan.specs.Upkeep.{IsBroughtUp};
 
 use crate::acknowledging::acknowledge;
+use crate::bringing::{BroughtUp, bring_up};
+use crate::closing::close;
+use crate::failing::Reason;
 use crate::fetching::fetch;
 use crate::pushing::{push, push_batch};
 use crate::replies::not_served;
+use crate::reporting::report;
 use fk_core::Tables;
 use fk_frame::Reply;
 use fk_model::{Ask, Moves};
@@ -50,8 +58,9 @@ pub fn plan(
     ensures none { OnErr result (moves.new.items ≡ []) }
     ensures room { moves.old.spare ≤ length moves.new.items + moves.new.spare }
 
-    // An acknowledgement takes no memory where there is room for its two moves.
-    ensures ready { is_ack ask ≡ true → 2 ≤ moves.old.spare → IsOk result }
+    // An acknowledgement takes no memory where nothing is due and there is room for its two moves.
+    ensures ready { is_ack ask ≡ true → IsUpToDate moment tables.now.kept → 2 ≤ moves.old.spare
+        → IsOk result }
 {
     are_well_kept(tables);
     match plan_ask(alloc, tables, ask, moment, word, moves) {
@@ -66,12 +75,14 @@ pub fn plan(
 /// Where the next number is above all tickets and ranks, tables are well kept.
 fn are_well_kept(tables: &Tables)
     requires { IsAboveAll tables.now.kept.next tables.now.kept.rows }
-    ensures { IsWellKept tables.now.kept }
+    ensures kept { IsWellKept tables.now.kept }
+    ensures within { tables.now.kept.next ≤ greatest_next }
 {
     let _ = tables.next();
 }
 
-/// The plan of a turn. After want of memory some of its moves may be there.
+/// The plan of a turn: the state is brought up to date, then the ask acts, and the numbers are told. After
+/// want of memory some of its moves may be there.
 fn plan_ask(
     alloc: Global,
     tables: &Tables,
@@ -84,19 +95,71 @@ fn plan_ask(
     requires moment { moment < greatest }
     requires range { IsInRange ask }
     requires kept { IsWellKept tables.now.kept }
+    requires within { tables.now.kept.next ≤ greatest_next }
     ensures ok { IfOk result (λ reply.
         IsPlan tables.now.kept ask moment word reply moves.new.items) }
     ensures room { moves.old.spare ≤ length moves.new.items + moves.new.spare }
-    ensures ready { is_ack ask ≡ true → 2 ≤ moves.old.spare → IsOk result }
+    ensures ready { is_ack ask ≡ true → IsUpToDate moment tables.now.kept → 2 ≤ moves.old.spare
+        → IsOk result }
 {
-    let _ = word;
+    let mut up = bring_up(alloc, tables, moment, word, moves)?;
+    let reply = act(alloc, tables, ask, moment, word, &mut up, moves)?;
+    close(up.numbers, moves)?;
+    Ok(reply)
+}
+
+/// The ask acts on the state that was brought up to date.
+fn act(
+    alloc: Global,
+    tables: &Tables,
+    ask: Ask,
+    moment: u64,
+    word: u64,
+    up: &mut BroughtUp,
+    moves: &mut Moves,
+) -> Result<Reply, AllocError>
+    requires moment { moment < greatest }
+    requires range { IsInRange ask }
+    requires kept { IsWellKept tables.now.kept }
+    requires up { IsBroughtUp tables.now.kept moment word up.old }
+    requires next { (brought_up tables.now.kept moment word).next ≤ 2 ^ 63 }
+    ensures ok { IfOk result (λ reply. IsDone tables.now.kept
+        (brought_up tables.now.kept moment word) ask moment word reply moves.old.items
+        moves.new.items up.new.numbers) }
+    ensures room { moves.old.spare + length moves.old.items
+        ≤ length moves.new.items + moves.new.spare }
+    ensures one { is_ack ask ≡ true → moves.old.spare ≤ moves.new.spare + 1 }
+    ensures ready { is_ack ask ≡ true → 0 < moves.old.spare → IsOk result }
+{
     match ask {
-        Ask::Push { job } => push(alloc, tables, job, moment, moves),
+        Ask::Push { job } => push(alloc, job, moment, &mut up.numbers, moves),
         Ask::PushBatch { jobs, told } => {
-            push_batch(alloc, tables, jobs.into_jobs(), told, moment, moves)
+            push_batch(jobs.into_jobs(), told, moment, &mut up.numbers, moves)
         }
-        Ask::Fetch { wid, queues } => fetch(alloc, tables, wid, &queues, moment, moves),
-        Ask::Ack { jid } => acknowledge(alloc, tables, &jid, moves),
+        Ask::Fetch { wid, queues } => fetch(alloc, tables, wid, &queues, &up.due, moment, moves),
+        Ask::Ack { jid } => acknowledge(alloc, tables, &jid, moment, &mut up.numbers, moves),
+        Ask::Fail {
+            jid,
+            errtype,
+            message,
+            backtrace,
+        } => {
+            let reason = Reason {
+                errtype,
+                message,
+                backtrace,
+            };
+            report(
+                alloc,
+                tables,
+                &jid,
+                reason,
+                moment,
+                word,
+                &mut up.numbers,
+                moves,
+            )
+        }
         _ => Ok(not_served(alloc)),
     }
 }

@@ -1,14 +1,14 @@
-// The plan of a push.
-ghost use Rattle.std.specs.Prelude.{◌≡◌, ◌<◌, ◌≤◌, ◌∷◌, ◌++◌, ◌+◌, ◌^◌, ◌||◌, ℕ, [], false, drop, length, IfOk, OnOk};
-ghost use Rattle.std.specs.List.{list_any};
+// What a push does.
+ghost use Rattle.std.specs.Prelude.{◌≡◌, ◌<◌, ◌≤◌, ◌∷◌, ◌++◌, ◌+◌, ◌^◌, ℕ, [], length, IfOk, OnOk};
 ghost use Rattle.fk_model.specs.declared.ask.Ask.TheVariants.{Push, PushBatch};
-ghost use Rattle.fk_model.specs.declared.move_.Move.TheVariants.{Totals};
+ghost use Rattle.fk_model.specs.declared.move_.Move.TheVariants.{Add};
+ghost use Rattle.fk_model.specs.State.{KeptState};
 ghost use Rattle.fk_model.specs.Requests.{is_later, pushed_row};
 ghost use Rattle.fk_model.specs.Turns.{moves_of_push};
-ghost use Rattle.fk_plan.specs.Plans.{IsPlan};
+ghost use Rattle.fk_plan.specs.Plans.{AreNumbersOf, IsDone};
 
-use crate::replies::{not_served, ok};
-use fk_core::Tables;
+use crate::numbers::Numbers;
+use crate::replies::ok;
 use fk_frame::Reply;
 use fk_job::{Job, Jobs, Stamp};
 use fk_json::Text;
@@ -18,135 +18,105 @@ use std::alloc::{AllocError, Global};
 /// One job is pushed.
 pub(crate) fn push(
     alloc: Global,
-    tables: &Tables,
     job: Job,
     moment: u64,
+    numbers: &mut Numbers,
     moves: &mut Moves,
 ) -> Result<Reply, AllocError>
-    requires { moves.old.items ≡ [] }
-    ensures ok { (word : ℕ) → IfOk result (λ reply.
-        IsPlan tables.now.kept (Push job) moment word reply moves.new.items) }
-    ensures room { moves.old.spare ≤ length moves.new.items + moves.new.spare }
+    requires { numbers.old.next ≤ 2 ^ 63 }
+    ensures ok { (before up : KeptState) (word : ℕ) → AreNumbersOf up numbers.old
+        → IfOk result (λ reply. IsDone before up (Push job) moment word reply moves.old.items
+        moves.new.items numbers.new) }
+    ensures room { moves.old.spare + length moves.old.items
+        ≤ length moves.new.items + moves.new.spare }
 {
-    if is_later(&job, moment) {
-        return Ok(not_served(alloc));
-    }
-    let next = tables.next();
-    let row = waiting_row(job, moment, next);
-    moves.push(Move::Add { ticket: next, row })?;
-    close(tables, 1, moves)?;
+    add_row(job, moment, numbers, moves)?;
     Ok(ok(alloc))
 }
 
 /// Jobs are pushed at once.
 pub(crate) fn push_batch(
-    alloc: Global,
-    tables: &Tables,
     jobs: Jobs,
     told: Text,
     moment: u64,
+    numbers: &mut Numbers,
     moves: &mut Moves,
 ) -> Result<Reply, AllocError>
-    requires empty { moves.old.items ≡ [] }
+    requires next { numbers.old.next ≤ 2 ^ 63 }
     requires short { length jobs.items < 2 ^ 32 }
-    ensures ok { (word : ℕ) → IfOk result (λ reply.
-        IsPlan tables.now.kept (PushBatch jobs.items told) moment word reply moves.new.items) }
-    ensures room { moves.old.spare ≤ length moves.new.items + moves.new.spare }
+    ensures ok { (before up : KeptState) (word : ℕ) → AreNumbersOf up numbers.old
+        → IfOk result (λ reply. IsDone before up (PushBatch jobs.items told) moment word reply
+        moves.old.items moves.new.items numbers.new) }
+    ensures room { moves.old.spare + length moves.old.items
+        ≤ length moves.new.items + moves.new.spare }
 {
-    if is_any_later(&jobs, moment) {
-        return Ok(not_served(alloc));
-    }
-    if jobs.is_empty() {
-        return Ok(Reply::Bulk(told));
-    }
-    let pushed = jobs.len() as u64;
-    add_rows(tables.next(), jobs.into_vec(), moment, moves)?;
-    close(tables, pushed, moves)?;
+    add_rows(jobs.into_vec(), moment, numbers, moves)?;
     Ok(Reply::Bulk(told))
 }
 
-/// Adds a new row for each job, under the tickets from a number on.
-fn add_rows(next: u64, jobs: Vec<Job>, moment: u64, moves: &mut Moves) -> Result<(), AllocError>
-    requires fits { next + length jobs.items < 2 ^ 64 }
-    requires due { list_any (is_later moment) jobs.items ≡ false }
+/// Adds a new row for each job, in order.
+fn add_rows(
+    jobs: Vec<Job>,
+    moment: u64,
+    numbers: &mut Numbers,
+    moves: &mut Moves,
+) -> Result<(), AllocError>
+    requires fits { numbers.old.next + length jobs.items < 2 ^ 64 }
     ensures ok { OnOk result (moves.new.items
-        ≡ moves.old.items ++ moves_of_push moment next jobs.items) }
+        ≡ moves.old.items ++ moves_of_push moment numbers.old.next jobs.items) }
+    ensures next { OnOk result
+        (numbers.new ≡ record numbers.old { next = numbers.old.next + length jobs.items }) }
     ensures room { moves.old.spare + length moves.old.items
         ≤ length moves.new.items + moves.new.spare }
 {
     moves.reserve(jobs.len())?;
-    let mut ticket = next;
     'adding: for job in jobs {
-        let row = waiting_row(job, moment, ticket);
-        moves.push(Move::Add { ticket, row })?;
-        ticket += 1;
+        add_row(job, moment, numbers, moves)?;
     }
     Ok(())
 }
 
-/// The row of a job that waits from now on, with its ticket for a rank.
-fn waiting_row(job: Job, moment: u64, ticket: u64) -> Row
-    requires { is_later moment job ≡ false }
+/// Adds a new row for a job.
+fn add_row(
+    job: Job,
+    moment: u64,
+    numbers: &mut Numbers,
+    moves: &mut Moves,
+) -> Result<(), AllocError>
+    requires fits { numbers.old.next + 1 < 2 ^ 64 }
+    ensures ok { OnOk result (moves.new.items
+        ≡ moves.old.items ++ Add numbers.old.next (pushed_row moment numbers.old.next job) ∷ []) }
+    ensures next { OnOk result (numbers.new ≡ record numbers.old { next = numbers.old.next + 1 }) }
+    ensures room { moves.old.spare + length moves.old.items
+        ≤ length moves.new.items + moves.new.spare }
+{
+    let ticket = numbers.next;
+    let row = new_row(job, moment, ticket);
+    moves.push(Move::Add { ticket, row })?;
+    numbers.next += 1;
+    Ok(())
+}
+
+/// The row of a job that is pushed: scheduled where it is due later, and else waiting from now on, with
+/// its ticket for a rank.
+fn new_row(job: Job, moment: u64, ticket: u64) -> Row
     ensures { result ≡ pushed_row moment ticket job }
 {
+    let place = match job.at {
+        Some(at) if moment < at => Place::Scheduled { at },
+        _ => Place::Queued { rank: ticket },
+    };
+    let enqueued = match place {
+        Place::Scheduled { .. } => None,
+        _ => Some(moment),
+    };
     Row {
         job,
         stamp: Stamp {
             created: moment,
-            enqueued: Some(moment),
+            enqueued,
             failure: None,
         },
-        place: Place::Queued { rank: ticket },
-    }
-}
-
-/// Adds the numbers at the end, where so many jobs were pushed.
-fn close(tables: &Tables, pushed: u64, moves: &mut Moves) -> Result<(), AllocError>
-    requires { pushed < 2 ^ 32 }
-    ensures ok { OnOk result (moves.new.items ≡ moves.old.items
-        ++ Totals (tables.now.kept.next + pushed) tables.now.kept.processed
-        tables.now.kept.failures ∷ []) }
-    ensures room { moves.old.spare + length moves.old.items
-        ≤ length moves.new.items + moves.new.spare }
-{
-    moves.push(Move::Totals {
-        next: tables.next() + pushed,
-        processed: tables.processed(),
-        failures: tables.failures(),
-    })
-}
-
-/// Whether a job is due later than this.
-fn is_later(job: &Job, moment: u64) -> bool
-    ensures { result ≡ is_later moment job.now }
-{
-    match job.at {
-        Some(at) => moment < at,
-        None => false,
-    }
-}
-
-/// Whether one of the jobs is.
-fn is_any_later(jobs: &Jobs, moment: u64) -> bool
-    ensures { result ≡ list_any (is_later moment) jobs.now.items }
-{
-    'looking: for at in 0..jobs.len() {
-        if is_later_at(jobs, at, moment) {
-            return true;
-        }
-    }
-    false
-}
-
-/// Whether the job at a place is, or one behind it.
-#[tactic(auto, using(crate::proofs::Later::one_later, std::proofs::lemmas::Option::slice_get_within))]
-fn is_later_at(jobs: &Jobs, at: usize, moment: u64) -> bool
-    requires { at < length jobs.now.items }
-    ensures { list_any (is_later moment) (drop at jobs.now.items)
-        ≡ (result || list_any (is_later moment) (drop (at + 1) jobs.now.items)) }
-{
-    match jobs.get(at) {
-        Some(job) => is_later(job, moment),
-        None => false,
+        place,
     }
 }

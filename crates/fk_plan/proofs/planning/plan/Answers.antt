@@ -4,10 +4,10 @@ use Rattle.fk_plan.proofs.planning.plan.Goals as goal
 pub returns-in-Ok-clause-leads : goal.returns-in-Ok-clause-leads
 returns-in-Ok-clause-leads c =
     plan_leads c.args.tables.now.kept c.args.ask c.args.moment c.args.word c.in-Ok.reply
-    c.plan_ask.new.moves.items c.in-Ok.ensures.ok c.are_well_kept.ensures c.requires.range
+    c.plan_ask.new.moves.items c.in-Ok.ensures.ok c.are_well_kept.ensures.kept c.requires.range
     c.requires.moment
 
 pub returns-in-Ok-clause-stays : goal.returns-in-Ok-clause-stays
 returns-in-Ok-clause-stays c =
     plan_stays c.args.tables.now.kept c.args.ask c.args.moment c.args.word c.in-Ok.reply
-    c.plan_ask.new.moves.items c.in-Ok.ensures.ok c.are_well_kept.ensures
+    c.plan_ask.new.moves.items c.in-Ok.ensures.ok c.are_well_kept.ensures.kept

@@ -1,0 +1,86 @@
+-- What is planned: the moves by which the state is brought up to date, those of the request, and the numbers last.
+use Rattle.std.proofs.Common.{◌≡◌, ◌∙◌, sym, ap, refl, ℕ, ◌+◌, ◌^◌, ◌<◌, ◌≤◌, List, ◌++◌, length, arith}
+use Rattle.std.proofs.lemmas.List.{append-nil}
+use Rattle.fk_frame.specs.declared.reply.Reply.{Reply}
+use Rattle.fk_job.specs.declared.job.Job.{Job}
+use Rattle.fk_model.specs.declared.ask.Ask.{Ask}
+use Rattle.fk_model.specs.declared.ask.Ask.TheVariants.{Push, PushBatch, Fetch, Ack, Fail}
+use Rattle.fk_model.specs.declared.move_.Move.{Move}
+use Rattle.fk_model.specs.Limits.{greatest_next}
+use Rattle.fk_model.specs.State.{KeptState, without_workers}
+use Rattle.fk_model.specs.Between.{IsWellKept}
+use Rattle.fk_model.specs.Due.{IsUpToDate}
+use Rattle.fk_model.specs.Bringing.{brought_up, moves_up}
+use Rattle.fk_model.specs.Said.{said, not_served}
+use Rattle.fk_model.specs.Turns.{closed, turn, moves_of}
+use Rattle.fk_plan.specs.declared.numbers.Numbers.{Numbers}
+use Rattle.fk_plan.specs.declared.bringing.BroughtUp.{BroughtUp}
+use Rattle.fk_plan.specs.Upkeep.{IsBroughtUp}
+use Rattle.fk_plan.specs.Plans.{IsPlan, AreNumbersOf, IsDone}
+use Rattle.fk_plan.proofs.DueNumbers.{up_next_pairs, few_due}
+use Rattle.fk_plan.proofs.NothingDue.{no_moves}
+
+-- the numbers of a kept state that was brought up to date
+pub numbers_up : (kept : KeptState) (moment word : ℕ) (up : BroughtUp) → IsBroughtUp kept moment word up
+    → AreNumbersOf (brought_up kept moment word) up.numbers
+numbers_up kept moment word up is =
+    record { next = is.next; processed = is.processed; failures = is.failures }
+
+-- a request that isn't served yet
+pub none_done : (before up : KeptState) (ask : Ask) (moment word : ℕ) (front : List Move) (numbers : Numbers)
+    → ((job : Job) → ask ≡ Push job → ⊥)
+    → ((jobs : List Job) (told : List ℕ) → ask ≡ PushBatch jobs told → ⊥)
+    → ((wid : List ℕ) (queues : List (List ℕ)) → ask ≡ Fetch wid queues → ⊥)
+    → ((jid : List ℕ) → ask ≡ Ack jid → ⊥)
+    → ((jid errtype message : List ℕ) (backtrace : List (List ℕ)) → ask ≡ Fail jid errtype message backtrace → ⊥)
+    → AreNumbersOf up numbers → IsDone before up ask moment word not_served front front numbers
+unfolding said moves_of
+none_done before up (Push job) moment word front numbers push batch fetch ack fail has =
+    absurd (push job refl)
+none_done before up (PushBatch jobs told) moment word front numbers push batch fetch ack fail has =
+    absurd (batch jobs told refl)
+none_done before up (Fetch wid queues) moment word front numbers push batch fetch ack fail has =
+    absurd (fetch wid queues refl)
+none_done before up (Ack jid) moment word front numbers push batch fetch ack fail has =
+    absurd (ack jid refl)
+none_done before up (Fail jid errtype message backtrace) moment word front numbers push batch fetch ack fail has =
+    absurd (fail jid errtype message backtrace refl)
+none_done before up other moment word front numbers push batch fetch ack fail has =
+    record { answer = refl; made = sym (append-nil front); counted = has }
+
+-- the pairs that are due and the numbers up to the next one, which are below its bound
+pub few_pairs : (kept : KeptState) (moment word : ℕ) (up : BroughtUp) → IsWellKept kept
+    → IsBroughtUp kept moment word up → (brought_up kept moment word).next ≤ 2 ^ 63
+    → kept.next + length up.due.items < 2 ^ 64
+few_pairs kept moment word up well is within =
+    let next = up_next_pairs kept moment word well in
+    let same = ap length is.due in
+    omega (arith, next, same, within)
+
+-- the next number is far from the end of its type
+pub next_within : (kept : KeptState) (moment word : ℕ) → IsWellKept kept → kept.next ≤ greatest_next
+    → (brought_up kept moment word).next ≤ 2 ^ 63
+next_within kept moment word well within =
+    let next = up_next_pairs kept moment word well in
+    let few = few_due kept moment well in
+    omega (arith, next, few, within)
+
+-- the numbers are told where there is any move
+pub planned : (kept : KeptState) (ask : Ask) (moment word : ℕ) (reply : Reply) (front moves all : List Move)
+    (numbers : Numbers) → front ≡ moves_up kept moment word
+    → IsDone kept (brought_up kept moment word) ask moment word reply front moves numbers
+    → ((state : KeptState) → AreNumbersOf state numbers → all ≡ closed moves state)
+    → IsPlan kept ask moment word reply all
+planned kept ask moment word reply front moves all numbers first is told = record {
+  said = is.answer;
+  made = told (turn (without_workers kept) ask moment word).state.kept is.counted
+      ∙ ap (λ xs. closed xs (turn (without_workers kept) ask moment word).state.kept)
+      (is.made ∙ ap (λ xs. xs ++ moves_of kept (without_workers (brought_up kept moment word)) ask moment word) first);
+}
+
+-- where nothing is due, bringing up takes none of the room
+pub room_stays : (kept : KeptState) (moment word spare left : ℕ) (moves : List Move) → IsUpToDate moment kept
+    → moves ≡ moves_up kept moment word → spare ≤ length moves + left → spare ≤ left
+room_stays kept moment word spare left moves on made room =
+    let none : length moves ≡ 0 = ap length (made ∙ sym (no_moves moment word kept on)) in
+    omega (arith, none, room)
