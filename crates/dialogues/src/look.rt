@@ -8,7 +8,7 @@ use crate::steps::move_of;
 use fk_core::Tables;
 use fk_json::Text;
 use fk_lists::Sizes;
-use fk_model::{Move, Place, Row};
+use fk_model::{Move, Place, Row, Target};
 use std::alloc::{AllocError, Global};
 use std::fmt::{Display, Write};
 
@@ -25,6 +25,8 @@ pub enum Look {
     Sizes,
     /// The number of rows that workers have.
     Working,
+    /// The number of rows in a set by moment.
+    Size(Target),
     Next,
     Processed,
     Failures,
@@ -43,11 +45,22 @@ pub fn look_of(alloc: Global, text: &str) -> Result<Look, ScriptFault> {
         "leased" => Ok(Look::Leased(unescaped(alloc, rest)?)),
         "sizes" => Ok(Look::Sizes),
         "working" => Ok(Look::Working),
+        "size" => Ok(Look::Size(target_of(rest)?)),
         "next" => Ok(Look::Next),
         "processed" => Ok(Look::Processed),
         "failures" => Ok(Look::Failures),
         "ticket" => Ok(Look::Row(number(rest)?)),
         "fits" => Ok(Look::Fits(move_of(alloc, rest)?)),
+        _ => Err(ScriptFault::NoLook),
+    }
+}
+
+/// The set by moment that a word names.
+fn target_of(word: &str) -> Result<Target, ScriptFault> {
+    match word {
+        "scheduled" => Ok(Target::Scheduled),
+        "retries" => Ok(Target::Retries),
+        "dead" => Ok(Target::Dead),
         _ => Err(ScriptFault::NoLook),
     }
 }
@@ -65,6 +78,7 @@ pub fn push_found(
         Look::Leased(jid) => push_ticket(into, tables.leased(jid)),
         Look::Sizes => push_sizes(into, &tables.sizes()?),
         Look::Working => push_number(into, tables.working()),
+        Look::Size(target) => push_number(into, tables.size(*target)),
         Look::Next => push_number(into, tables.next()),
         Look::Processed => push_number(into, tables.processed()),
         Look::Failures => push_number(into, tables.failures()),
