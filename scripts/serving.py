@@ -40,6 +40,11 @@ def push(number, queue):
     return ("PUSH %s\r\n" % job(number, queue)).encode()
 
 
+def push_with(name, members):
+    """The line that pushes a job of this jid with some more members."""
+    return ('PUSH {"jid":"%s","jobtype":"SendMail","args":[],%s}\r\n' % (name, members)).encode()
+
+
 def fetch(*queues):
     """The line that fetches from the first of these queues that has a row."""
     return ("FETCH %s\r\n" % " ".join(queues)).encode()
