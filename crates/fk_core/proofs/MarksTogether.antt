@@ -205,7 +205,8 @@ unmarked_next rows moves at before after none one = rw add-one (record {
 -- where tables have room for moves, they have it still where no room is less
 pub room_stays : (held : Held) (rows : List (ℕ × Row)) (moves : List Move) (before after : Index)
     → held.kept.rows ≡ rows → held.room.queues ≡ before.queues.spares
-    → held.room.leases ≡ before.leases.spares → held.room.sets ≡ before.sets.spares → KeepsRoom before after → Reserved held moves
+    → held.room.leases ≡ before.leases.spares → held.room.sets ≡ before.sets.spares
+    → KeepsRoom before after → Reserved held moves
     → HasRoom rows moves after
 room_stays held rows moves before after same queues leases sets kept reserved = rw (← same) (record {
   queues = λ name. let more : spare_at held.room.queues name ≤ spare_at after.queues.spares name =

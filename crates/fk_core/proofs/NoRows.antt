@@ -10,7 +10,8 @@ use Rattle.fk_core.specs.Index.{Index}
 use Rattle.fk_core.specs.Tied.{AreTied}
 
 pub tied_to_none : (index : Index) (next : ℕ) → index.queues.items ≡ [] → index.leases.items ≡ []
-    → ((target : Target) → pairs_in target index.sets.items ≡ []) → index.working ≡ 0 → next ≤ greatest_next → AreTied [] index next
+    → ((target : Target) → pairs_in target index.sets.items ≡ [])
+    → index.working ≡ 0 → next ≤ greatest_next → AreTied [] index next
 unfolding list_at in_order
 tied_to_none index next queues leases sets working within = record {
   by_ticket = λ k more. absurd (omega (arith, more));

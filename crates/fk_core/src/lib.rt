@@ -1,5 +1,5 @@
-//! The kept state in tables: the rows, and beside them the queues, leases and sets by which they are
-//! found.
+//! The kept state in tables: the rows, and beside them the queues, leases and sets by which they
+//! are found.
 #![tactic(auto)]
 
 mod applying;

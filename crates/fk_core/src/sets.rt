@@ -14,7 +14,8 @@ use fk_model::{Place, Target};
 use std::alloc::{AllocError, Global};
 use std::marker::Model;
 
-/// The sets by moment: the rows that leave their place by time alone, but for those that workers have.
+/// The sets by moment: the rows that leave their place by time alone, but for those that workers
+/// have.
 #[derive(Drop)]
 pub(crate) struct Sets {
     scheduled: TimedSet,
@@ -155,7 +156,8 @@ impl Sets {
 
     /// Whether the moment of each row is beyond this one.
     pub(crate) fn is_later(&self, moment: u64) -> bool
-        ensures { IsTrue result ↔ ((target : Target) → AreLater moment (pairs_in target self.now.items)) }
+        ensures { IsTrue result
+            ↔ ((target : Target) → AreLater moment (pairs_in target self.now.items)) }
     {
         self.scheduled.is_later(moment)
             && self.retries.is_later(moment)
