@@ -32,7 +32,7 @@ no_return : (text : List ℕ) → IsOneLine text → HasNoReturn text
 no_return text one k d lt = not_a_return _ (AllPass-from_list_all is_within_line text one k d lt)
 
 -- a number in decimal is digits
-digit : (n k : ℕ) (d : ℕ) → n < 2 ^ 64 → k < length (decimal n) → 48 ≤ get_or (decimal n) k d
+pub digit : (n k : ℕ) (d : ℕ) → n < 2 ^ 64 → k < length (decimal n) → 48 ≤ get_or (decimal n) k d
 digit n k d fits lt =
     let numeral = decimal_is_IsNumeral n fits in
     let here = digit_at (decimal n) k numeral.0.1 lt in
@@ -99,7 +99,7 @@ not_nil a x y fits e =
     omega (arith, digit (length a) 0 0 fits some)
 
 -- the first bytes of equal lists are equal
-heads : (a b : ℕ) (x y : List ℕ) → a ∷ x ≡ b ∷ y → a ≡ b
+pub heads : (a b : ℕ) (x y : List ℕ) → a ∷ x ≡ b ∷ y → a ≡ b
 heads a b x y e = cc
 
 behind : (a b : ℕ) (x y : List ℕ) → a ∷ x ≡ b ∷ y → x ≡ y

@@ -129,7 +129,7 @@ fn line_end(bytes: &[u8], start: usize) -> usize
 
 // The bytes from a place on.
 #[tactic(auto, using(std::proofs::lemmas::List::take_rest))]
-fn bytes_from(bytes: &[u8], start: usize) -> &[u8]
+pub(crate) fn bytes_from(bytes: &[u8], start: usize) -> &[u8]
     requires { start ≤ length bytes.now }
     ensures { result.now ≡ drop start bytes.now }
 {
