@@ -144,7 +144,8 @@ def scope_at(line, scope, is_test):
 
 
 def names_of_impl(line):
-    """The type of an `impl` line, and the trait, if there is one, without their parameters."""
+    """The type of an `impl` line, and the trait, if there is one, without their parameters. A slice goes by
+    the type of its items."""
     head = re.sub(r"\s*\{.*", "", line)
     if head.startswith("impl<"):
         depth, at = 1, len("impl<")
@@ -155,7 +156,7 @@ def names_of_impl(line):
     else:
         head = head[len("impl"):]
     trait, is_trait, owner = head.partition(" for ")
-    names = [re.search(r"(\w+)\s*(?:<.*)?$", part.strip()).group(1) for part in (trait, owner) if part]
+    names = [re.search(r"(\w+)\]?\s*(?:<.*)?$", part.strip()).group(1) for part in (trait, owner) if part]
     return (names[1], names[0]) if is_trait else (names[0], None)
 
 
