@@ -1,5 +1,5 @@
 -- A command is one line: a verb, and behind its first space the arguments.
-use Rattle.std.specs.Prelude.{ℕ, ◌==◌, Bool, List, codes}
+use Rattle.std.specs.Prelude.{ℕ, ◌==◌, Bool, List}
 use Rattle.std.specs.List.{before_first, after_first}
 use Rattle.std.specs.Str.{bytes_eq}
 
@@ -17,7 +17,3 @@ arguments line = after_first is_space line
 -- the line's verb, byte for byte
 abbrev pub has_verb : List ℕ → List ℕ → Bool
 has_verb name line = bytes_eq (verb line) name
-
--- the one HELLO that is served
-abbrev pub is_plain_hello : List ℕ → Bool
-is_plain_hello line = bytes_eq line (codes "HELLO {\"v\":2}")

@@ -1,7 +1,7 @@
 pub mod Commands
 pub mod Payloads
+pub mod Handshake
 pub mod Script
-pub mod Advance
 pub mod Limits
 pub mod Rows
 pub mod State
@@ -15,6 +15,7 @@ pub mod Failing
 pub mod Due
 pub mod Bringing
 pub mod Requests
+pub mod Workers
 pub mod Said
 pub mod Turns
 pub mod Answers

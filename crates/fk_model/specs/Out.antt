@@ -7,7 +7,8 @@ use Rattle.fk_model.specs.declared.ask.Ask.{Ask}
 use Rattle.fk_model.specs.declared.item.Item.{Item}
 use Rattle.fk_model.specs.declared.item.Item.TheVariants.{Own, Asks}
 use Rattle.fk_model.specs.Answers.{answer_bytes}
-use Rattle.fk_model.specs.Script.{greeting}
+use Rattle.fk_model.specs.declared.gate.Gate.{Gate}
+use Rattle.fk_model.specs.Handshake.{greeting}
 
 -- the asks among the items, in order
 abbrev pub asks_of : List Item → List Ask
@@ -30,5 +31,5 @@ out (Asks ask ∷ items) [] = []
 out (Asks ask ∷ items) (answer ∷ answers) = answer_bytes answer ++ out items answers
 
 -- all that is written to a client whose bytes give these items
-abbrev pub output : List Item → List Answer → List ℕ
-output items answers = greeting ++ out items answers
+abbrev pub output : Gate → List Item → List Answer → List ℕ
+output gate items answers = greeting gate ++ out items answers

@@ -1,6 +1,6 @@
--- What a PUSH, a PUSHB, a FETCH, an ACK and a FAIL give, after Faktory's protocol specification: what a
--- turn is asked for, or a refusal. The texts are this server's own.
-use Rattle.std.specs.Prelude.{◌≡◌, ◌⊎◌, ℕ, List, [], ◌∷◌, ◌++◌, length, nat_lt, Bool, if◌then◌else◌, Option, None, option_and_then, unwrap_or, filter, codes, slice_range}
+-- What a PUSH, a PUSHB, a FETCH, an ACK, a FAIL, a BEAT and a SIGNAL give, after Faktory's protocol
+-- specification: what a turn is asked for, or a refusal. SIGNAL and the texts are this server's own.
+use Rattle.std.specs.Prelude.{◌≡◌, ◌⊎◌, ℕ, List, [], ◌∷◌, ◌++◌, length, nat_lt, Bool, if◌then◌else◌, Option, None, Some, bytes_eq, option_and_then, unwrap_or, filter, codes, slice_range}
 use Rattle.std.specs.List.{filter_map, slice_split}
 use Rattle.std.specs.Option.{option_map_or}
 use Rattle.std.specs.Str.{is_utf8}
@@ -18,7 +18,9 @@ use Rattle.fk_job.specs.declared.fault.JobFault.{JobFault}
 use Rattle.fk_job.specs.declared.fault.JobFault.TheVariants.{NoJid, ShortJid, NoType, NoArgs, BadQueue, BadReserve, BadRetry, BadAt, Syntax, TooDeep, NoMemory}
 use Rattle.fk_job.specs.Fields.{HasString, default_queue}
 use Rattle.fk_job.specs.JobText.{HasFault, HasJid, IsJobOf}
-use Rattle.fk_model.specs.declared.ask.Ask.TheVariants.{Push, PushBatch, Fetch, Ack, Fail}
+use Rattle.fk_model.specs.declared.ask.Ask.TheVariants.{Push, PushBatch, Fetch, Ack, Fail, Beat, Signal}
+use Rattle.fk_model.specs.declared.work_state.WorkState.{WorkState}
+use Rattle.fk_model.specs.declared.work_state.WorkState.TheVariants.{Quiet, Terminate}
 use Rattle.fk_model.specs.declared.item.Item.{Item}
 use Rattle.fk_model.specs.declared.item.Item.TheVariants.{Own, Asks}
 use Rattle.fk_model.specs.Commands.{is_space}
@@ -123,9 +125,10 @@ or_default (name ∷ names) = name ∷ names
 abbrev pub queue_names : List ℕ → List (List ℕ)
 queue_names arguments = or_default (filter is_some_text (slice_split is_space arguments))
 
--- a FETCH asks for a job of the first of these queues that has one, as a producer
-abbrev pub IsFetched : List ℕ → Item → Type 0
-IsFetched arguments item = item ≡ Asks (Fetch [] (queue_names arguments))
+-- a FETCH asks for a job of the first of these queues that has one, for the worker of a wid, or for a
+-- producer where that is empty
+abbrev pub IsFetched : List ℕ → List ℕ → Item → Type 0
+IsFetched wid arguments item = item ≡ Asks (Fetch wid (queue_names arguments))
 
 -- ---- the object of a command's arguments
 
@@ -185,3 +188,42 @@ reported members =
 abbrev pub IsReported : List ℕ → Item → Type 0
 IsReported arguments item =
     item ≡ option_map_or reported (object_read arguments) (refused (codes "Bad JSON"))
+
+-- ---- a worker that is there
+
+-- what a BEAT of an object gives: the worker of its wid is there
+abbrev pub beat : Members → Item
+beat members =
+    option_map_or (λ wid. Asks (Beat wid)) (string_among (codes "wid") members)
+    (refused (codes "No wid"))
+
+-- a BEAT tells of the wid of its arguments, or is refused where they are no object
+abbrev pub IsBeat : List ℕ → Item → Type 0
+IsBeat arguments item =
+    item ≡ option_map_or beat (object_read arguments) (refused (codes "Bad JSON"))
+
+-- ---- a worker that is to stop
+
+-- the state of this name, of those that a signal may give
+abbrev pub state_named : List ℕ → Option WorkState
+state_named name =
+    if bytes_eq name (codes "quiet") then Some Quiet
+    else (if bytes_eq name (codes "terminate") then Some Terminate else None)
+
+-- what a SIGNAL to the worker of a wid gives: that worker gets the state of the members
+abbrev pub signal_to : Members → List ℕ → Item
+signal_to members wid =
+    option_map_or (λ state. Asks (Signal wid state))
+    (option_and_then state_named (string_among (codes "state") members))
+    (refused (codes "Bad state"))
+
+-- what a SIGNAL of an object gives
+abbrev pub signal : Members → Item
+signal members =
+    option_map_or (signal_to members) (string_among (codes "wid") members)
+    (refused (codes "No wid"))
+
+-- a SIGNAL tells of the wid of its arguments, or is refused where they are no object
+abbrev pub IsSignal : List ℕ → Item → Type 0
+IsSignal arguments item =
+    item ≡ option_map_or signal (object_read arguments) (refused (codes "Bad JSON"))

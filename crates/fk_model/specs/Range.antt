@@ -37,8 +37,12 @@ IsInRange Tick = Unit {0}
 -- What serde_json decodes of an ask's line, or writes for it, is a text, and there are fewer than 2^32 where
 -- it decodes many. No clause of serde_json bounds it by the line, so its length is tested where it comes.
 abbrev pub HasJsonTexts : Ask → Type 0
+HasJsonTexts (Hello wid) = IsText wid
 HasJsonTexts (PushBatch jobs told) = IsText told
+HasJsonTexts (Fetch wid queues) = IsText wid
 HasJsonTexts (Ack jid) = IsText jid
 HasJsonTexts (Fail jid errtype message backtrace) =
     IsText jid × IsText errtype × IsText message × AreTexts backtrace
+HasJsonTexts (Beat wid) = IsText wid
+HasJsonTexts (Signal wid state) = IsText wid
 HasJsonTexts other = Unit {0}

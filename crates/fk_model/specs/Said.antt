@@ -6,11 +6,14 @@ use Rattle.fk_frame.specs.declared.reply.Reply.TheVariants.{Status, Error, Bulk,
 use Rattle.fk_job.specs.RowText.{row_text}
 use Rattle.fk_model.specs.declared.row.Row.{Row}
 use Rattle.fk_model.specs.declared.ask.Ask.{Ask}
-use Rattle.fk_model.specs.declared.ask.Ask.TheVariants.{Push, PushBatch, Fetch, Ack, Fail}
+use Rattle.fk_model.specs.declared.ask.Ask.TheVariants.{Hello, Push, PushBatch, Fetch, Ack, Fail, Beat, Signal, Tick}
+use Rattle.fk_model.specs.declared.work_state.WorkState.{WorkState}
+use Rattle.fk_model.specs.declared.work_state.WorkState.TheVariants.{Running, Quiet, Terminate}
 use Rattle.fk_model.specs.Rows.{ticket_of, row_of}
-use Rattle.fk_model.specs.State.{KeptState, State}
+use Rattle.fk_model.specs.State.{KeptState, State, Worker}
 use Rattle.fk_model.specs.Orders.{leased}
 use Rattle.fk_model.specs.Failing.{Reason, failed}
+use Rattle.fk_model.specs.Workers.{beaten, greeted, signalled, state_of}
 use Rattle.fk_model.specs.Requests.{pushed, all_pushed, fetched, reserved, finished}
 
 -- what a request does: the state that it leaves, and what is said to it
@@ -58,9 +61,36 @@ fail_effect state jid reason moment word =
     option_map_or (λ filed. kept_and_said state (failed reason moment word state.kept filed) ok)
     (leased state.kept jid) (only_said state unknown_job)
 
--- what is said to a request, and the state that it leaves, by the moment and the word of its turn; one that
--- isn't served yet changes nothing, and the last line goes with the last request
+-- the workers are these, and this is said
+abbrev pub listed_and_said : State → List Worker → Reply → Effect
+listed_and_said state workers reply = record { state = record state { workers = workers }; reply = reply }
+
+-- what is said of a wid that isn't listed
+abbrev pub unknown_worker : Reply
+unknown_worker = Error (codes "ERR Unknown worker")
+
+-- what is said to a worker that is there, by its state
+abbrev pub state_told : WorkState → Reply
+state_told Running = ok
+state_told Quiet = Bulk (codes "{\"state\":\"quiet\"}")
+state_told Terminate = Bulk (codes "{\"state\":\"terminate\"}")
+
+-- a beat: the worker is seen, and told its state, if it is listed
+abbrev pub beat_effect : State → List ℕ → ℕ → Effect
+beat_effect state wid moment =
+    listed_and_said state (beaten wid moment state.workers)
+    (option_map_or state_told (state_of wid state.workers) unknown_worker)
+
+-- a signal: the worker gets the state, unless it has a greater one, if it is listed
+abbrev pub signal_effect : State → List ℕ → WorkState → Effect
+signal_effect state wid given =
+    listed_and_said state (signalled wid given state.workers)
+    (option_map_or (λ own. ok) (state_of wid state.workers) unknown_worker)
+
+-- what is said to a request, and the state that it leaves, by the moment and the word of its turn; what no
+-- line asks for yet changes nothing, and the last line goes with the last request
 unfoldable pub said : State → Ask → ℕ → ℕ → Effect
+said state (Hello wid) moment word = listed_and_said state (greeted wid moment state.workers) ok
 said state (Push job) moment word = kept_and_said state (pushed moment state.kept job) ok
 said state (PushBatch jobs told) moment word =
     kept_and_said state (all_pushed moment state.kept jobs) (Bulk told)
@@ -68,4 +98,7 @@ said state (Fetch wid queues) moment word = fetch_effect state wid queues moment
 said state (Ack jid) moment word = ack_effect state jid
 said state (Fail jid errtype message backtrace) moment word =
     fail_effect state jid (record { errtype = errtype; message = message; backtrace = backtrace }) moment word
+said state (Beat wid) moment word = beat_effect state wid moment
+said state (Signal wid given) moment word = signal_effect state wid given
+said state Tick moment word = only_said state ok
 said state other moment word = only_said state not_served

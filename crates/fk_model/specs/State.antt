@@ -30,6 +30,10 @@ empty = record { rows = []; next = 1; processed = 0; failures = 0 }
 abbrev pub untold : KeptState
 untold = record { rows = []; next = 0; processed = 0; failures = 0 }
 
+-- the state of a kept state and workers
+abbrev pub with_workers : KeptState → List Worker → State
+with_workers kept workers = record { kept = kept; workers = workers }
+
 -- the state with this kept state and no worker, as a server has it when it begins
 abbrev pub without_workers : KeptState → State
 without_workers kept = record { kept = kept; workers = [] }

@@ -12,12 +12,14 @@ use Rattle.fk_model.specs.State.{KeptState, State}
 use Rattle.fk_model.specs.Orders.{leased}
 use Rattle.fk_model.specs.Failing.{Reason}
 use Rattle.fk_model.specs.Bringing.{brought_up, moves_of_failed, moves_up}
+use Rattle.fk_model.specs.Workers.{fresh}
 use Rattle.fk_model.specs.Requests.{pushed_row, reserved_row, fetched}
 use Rattle.fk_model.specs.Said.{Effect, said}
 
--- the state brought up to the moment of a turn
+-- the state brought up to the moment of a turn: the kept state, and the workers, of whom some are forgotten
 abbrev pub up_to_date : State → ℕ → ℕ → State
-up_to_date state moment word = record state { kept = brought_up state.kept moment word }
+up_to_date state moment word =
+    record { kept = brought_up state.kept moment word; workers = fresh moment state.workers }
 
 -- what a turn does, by its moment and its word
 abbrev pub turn : State → Ask → ℕ → ℕ → Effect

@@ -1,7 +1,7 @@
 //! Laws over the definitions of scripts, states, turns and histories. Each is the contract of a function
 //! that does nothing.
 
-ghost use Rattle.std.specs.Prelude.{◌≡◌, ◌≢◌, ◌<◌, ◌≤◌, ◌↔◌, ◌∷◌, ◌++◌, [], All, AllPairs, Bool, List, count_by, false, length, ℕ};
+ghost use Rattle.std.specs.Prelude.{◌≡◌, ◌≢◌, ◌<◌, ◌≤◌, ◌↔◌, ◌∷◌, ◌++◌, [], All, AllPairs, Bool, List, count_by, false, length, Option, ℕ};
 ghost use Rattle.fk_time.specs.Moments.{greatest};
 ghost use Rattle.fk_frame.specs.Lines.{longest_line};
 ghost use Rattle.fk_frame.specs.declared.line_reader.Line.TheVariants.{Whole};
@@ -9,9 +9,9 @@ ghost use Rattle.fk_job.specs.Spellings.{AreBytes};
 ghost use Rattle.fk_model.specs.declared.ask.Ask.{Ask as AnAsk};
 ghost use Rattle.fk_model.specs.declared.ask.Ask.TheVariants.{Fail};
 ghost use Rattle.fk_model.specs.declared.entry.Entry.{Entry as AnEntry};
+ghost use Rattle.fk_model.specs.declared.gate.Gate.{Gate as AGate};
 ghost use Rattle.fk_model.specs.declared.item.Item.{Item as AnItem};
 ghost use Rattle.fk_model.specs.declared.item.Item.TheVariants.{Asks};
-ghost use Rattle.fk_model.specs.declared.item.Phase.{Phase as APhase};
 ghost use Rattle.fk_model.specs.Limits.{greatest_next};
 ghost use Rattle.fk_model.specs.State.{KeptState, State, empty, without_workers};
 ghost use Rattle.fk_model.specs.Orders.{comes_before, in_order};
@@ -21,6 +21,7 @@ ghost use Rattle.fk_model.specs.Changes.{after_moves, EndsWithTotals, Lead};
 ghost use Rattle.fk_model.specs.Failing.{Reason};
 ghost use Rattle.fk_model.specs.Due.{IsUpToDate};
 ghost use Rattle.fk_model.specs.Bringing.{brought_up, moves_up};
+ghost use Rattle.fk_model.specs.Workers.{after_turn};
 ghost use Rattle.fk_model.specs.Said.{fail_effect};
 ghost use Rattle.fk_model.specs.Turns.{closed, moves_of_fail, moves_of_turn, turn};
 ghost use Rattle.fk_model.specs.Answers.{IsToldApart};
@@ -32,18 +33,19 @@ ghost use Rattle.fk_model.specs.Script.{AreItemsOf, IsScript};
 
 /// Each stream has one script: what it gives is one list of items.
 pub fn a_stream_has_one_script()
-    ensures { (bytes : List ℕ) → (items : List AnItem) × IsScript bytes items
-        × ((others : List AnItem) → IsScript bytes others → others ≡ items) }
+    ensures { (gate : AGate) (bytes : List ℕ) → (items : List AnItem) × IsScript gate bytes items
+        × ((others : List AnItem) → IsScript gate bytes others → others ≡ items) }
 {}
 
 /// A turn may be made of each ask that a line gives, and so of each in a script, if what serde_json
 /// decodes or writes of it is a text: no line is long enough for a job, a name or a list beyond its
 /// bound.
 pub fn an_ask_of_a_line_is_in_range()
-    ensures line { (phase : APhase) (line : List ℕ) (ask : AnAsk)
-        → AreBytes line → length line ≤ longest_line → AreItemsOf phase (Whole line) (Asks ask ∷ [])
-        → HasJsonTexts ask → IsInRange ask }
-    ensures script { (bytes : List ℕ) (items : List AnItem) → AreBytes bytes → IsScript bytes items
+    ensures line { (gate : AGate) (speaker : Option (List ℕ)) (line : List ℕ) (ask : AnAsk)
+        → AreBytes line → length line ≤ longest_line
+        → AreItemsOf gate speaker (Whole line) (Asks ask ∷ []) → HasJsonTexts ask → IsInRange ask }
+    ensures script { (gate : AGate) (bytes : List ℕ) (items : List AnItem)
+        → AreBytes bytes → IsScript gate bytes items
         → All (λ ask. HasJsonTexts ask → IsInRange ask) (asks_of items) }
 {}
 
@@ -52,7 +54,7 @@ pub fn an_ask_of_a_line_is_in_range()
 pub fn a_reply_is_told_apart()
     ensures said { (s : State) (ask : AnAsk) (moment word : ℕ)
         → IsToldApart (turn s ask moment word).reply }
-    ensures own { (bytes : List ℕ) (items : List AnItem) → IsScript bytes items
+    ensures own { (gate : AGate) (bytes : List ℕ) (items : List AnItem) → IsScript gate bytes items
         → All IsToldApart (own_replies items) }
 {}
 
@@ -123,6 +125,13 @@ pub fn the_moves_of_a_fail_lead_to_its_state()
 pub fn a_turn_leaves_nothing_due()
     ensures { (s : State) (ask : AnAsk) (moment word : ℕ) → IsBetweenTurns s → moment < greatest
         → IsUpToDate moment (turn s ask moment word).state.kept }
+{}
+
+/// A turn makes of the workers what its ask says of them, once those are forgotten that were silent; what
+/// falls due, and what else is asked for, leaves them as they are.
+pub fn the_workers_after_a_turn()
+    ensures { (s : State) (ask : AnAsk) (moment word : ℕ)
+        → (turn s ask moment word).state.workers ≡ after_turn ask moment s.workers }
 {}
 
 /// A turn that isn't over its limit keeps what holds between turns.

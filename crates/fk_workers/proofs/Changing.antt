@@ -10,7 +10,7 @@ use Rattle.indexmap.specs.IndexMap.{insert_entry}
 use Rattle.fk_model.specs.declared.work_state.WorkState.TheVariants.{Running}
 use Rattle.fk_model.specs.State.{Worker}
 use Rattle.fk_workers.specs.declared.heard.Heard.{Heard}
-use Rattle.fk_workers.specs.Workers.{changed, greeted, is_named, newcomer, state_of}
+use Rattle.fk_model.specs.Workers.{changed, greeted, is_named, newcomer, state_of}
 use Rattle.fk_workers.specs.Entries.{Entry, worker_of, workers_of}
 
 -- ---- a look-up

@@ -9,7 +9,7 @@ use Rattle.std.proofs.lemmas.Map.Made.{IsDistinct-keys_filter}
 use Rattle.fk_model.specs.declared.work_state.WorkState.{WorkState}
 use Rattle.fk_model.specs.State.{Worker}
 use Rattle.fk_model.specs.Requests.{is_held_back, is_running}
-use Rattle.fk_workers.specs.Workers.{fresh, holds_back, is_kept, state_of, AreApart}
+use Rattle.fk_model.specs.Workers.{fresh, holds_back, is_kept, state_of, AreApart}
 use Rattle.fk_workers.specs.Entries.{Entry, workers_of}
 use Rattle.fk_workers.proofs.Silence.{fresh_workers}
 use Rattle.fk_workers.proofs.Telling.{apart_workers}

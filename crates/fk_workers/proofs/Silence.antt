@@ -7,7 +7,7 @@ use Rattle.indexmap.specs.IndexMap.{insert_entry}
 use Rattle.std.specs.Prelude.{bytes_eq}
 use Rattle.fk_model.specs.State.{Worker}
 use Rattle.fk_workers.specs.declared.heard.Heard.{Heard}
-use Rattle.fk_workers.specs.Workers.{forget_after, fresh, is_kept}
+use Rattle.fk_model.specs.Workers.{forget_after, fresh, is_kept}
 use Rattle.fk_workers.specs.Entries.{Entry, worker_of, workers_of, AreSince}
 
 -- what holds of either choice holds of the one that is taken

@@ -7,7 +7,7 @@ use Rattle.std.specs.Cmp.Lexicographic.{nat_list_eq_equiv}
 use Rattle.std.proofs.lemmas.Map.Entries.{option_filter, lookup-filter-values}
 use Rattle.fk_model.specs.declared.work_state.WorkState.{WorkState}
 use Rattle.fk_workers.specs.declared.heard.Heard.{Heard}
-use Rattle.fk_workers.specs.Workers.{fresh, is_kept, state_of, AreApart}
+use Rattle.fk_model.specs.Workers.{fresh, is_kept, state_of, AreApart}
 use Rattle.fk_workers.specs.Entries.{Entry, workers_of}
 use Rattle.fk_workers.proofs.Silence.{fresh_workers}
 use Rattle.fk_workers.proofs.Changing.{state_found}

@@ -1,5 +1,5 @@
 ghost use Rattle.std.specs.Prelude.{◌≡◌, if◌then◌else◌, Some, None};
-ghost use Rattle.fk_workers.specs.Workers as spec;
+ghost use Rattle.fk_model.specs.Workers as spec;
 
 use fk_model::WorkState;
 

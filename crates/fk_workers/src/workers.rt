@@ -1,6 +1,6 @@
 ghost use Rattle.std.specs.Prelude.{◌≡◌, [], false, Contains, IsOk, OnErr, OnOk};
 ghost use Rattle.fk_model.specs.Requests.{is_held_back};
-ghost use Rattle.fk_workers.specs.Workers.{after_turn, beaten, fresh, greeted, holds_back, is_kept as keeps, signalled, state_of, AreApart};
+ghost use Rattle.fk_model.specs.Workers.{after_turn, beaten, fresh, greeted, holds_back, is_kept as keeps, signalled, state_of, AreApart};
 ghost use Rattle.fk_workers.specs.Entries.{AreSince};
 ghost use Rattle.fk_workers.specs.Roll.{is_hello, IsReady};
 

@@ -1,7 +1,7 @@
 use Rattle.std.proofs.Common.{rules, ◌∙◌, ap, sym}
 use Rattle.indexmap.proofs.CallerLemmas.{filter-RetainsPairs}
 use Rattle.fk_workers.specs.Entries.{Entry, workers_of}
-use Rattle.fk_workers.specs.Workers.{is_kept}
+use Rattle.fk_model.specs.Workers.{is_kept}
 use Rattle.fk_workers.proofs.Silence.{all_fresh, fresh_workers}
 use Rattle.fk_workers.proofs.workers.Workers.forget.Goals as goal
 
