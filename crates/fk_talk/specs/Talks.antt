@@ -1,0 +1,81 @@
+-- A talk, as contracts see it, and what its calls do.
+use Rattle.std.specs.Prelude.{◌≡◌, ◌≢◌, ◌⊎◌, ℕ, List, [], ◌∷◌, ◌++◌, length, Bool, true, false}
+use Rattle.fk_frame.specs.Lines.{lines_of}
+use Rattle.fk_frame.specs.Reading.{HasLine, HasLongLine}
+use Rattle.fk_model.specs.declared.answer.Answer.{Answer}
+use Rattle.fk_model.specs.declared.ask.Ask.{Ask as AnAsk}
+use Rattle.fk_model.specs.declared.gate.Gate.{Gate}
+use Rattle.fk_model.specs.declared.item.Item.{Item}
+use Rattle.fk_model.specs.declared.item.Item.TheVariants.{Asks}
+use Rattle.fk_model.specs.Range.{IsInRange}
+use Rattle.fk_model.specs.Out.{asks_of, out, output}
+use Rattle.fk_talk.specs.declared.standing.Standing.{Standing}
+use Rattle.fk_talk.specs.declared.standing.Standing.TheVariants.{Nobody, Over}
+use Rattle.fk_talk.specs.declared.turn.Turn.{Turn}
+use Rattle.fk_talk.specs.declared.turn.Turn.TheVariants as turn
+use Rattle.fk_talk.specs.Advance.{Advances}
+
+-- A talk: what opens it, how far it has come, the bytes that wait for the end of their line, the bytes
+-- that are to be sent; an ask was given that has no answer yet; and memory ran out.
+pub record Talking : Type 0 where
+  pub gate : Gate
+  pub standing : Standing
+  pub waiting : List ℕ
+  pub out : List ℕ
+  pub asked : Bool
+  pub starved : Bool
+
+-- these items are replies of the script's own
+abbrev pub AreOwn : List Item → Type 0
+AreOwn items = asks_of items ≡ []
+
+-- the talk read the lines of these items, and what it replies of its own stands behind what is to be sent
+pub record Reads (old new : Talking) (items : List Item) : Type 0 where
+  pub advances : Advances old.gate old.standing old.waiting items new.standing new.waiting
+  pub put : new.out ≡ old.out ++ out items []
+  pub gate : new.gate ≡ old.gate
+  pub starved : new.starved ≡ false
+
+-- the talk read these lines, which it answered itself, and then what comes next
+pub record Comes (next : Turn) (old new : Talking) : Type 0 where
+  pub own : List Item
+  pub are_own : AreOwn own
+  pub is : IsNext next old new own
+
+-- what comes next behind them: a line that asks for a turn, or the end of the talk, or no line is left
+abbrev pub IsNext : Turn → Talking → Talking → List Item → Type 0
+IsNext (turn.Ask ask) old new own = Reads old new (own ++ Asks ask ∷ []) × (new.asked ≡ true)
+IsNext turn.Need old new own =
+    Reads old new own × (new.asked ≡ false) × (new.standing ≢ Over) × (lines_of new.waiting ≡ [])
+IsNext turn.Over old new own = Reads old new own × (new.asked ≡ false) × (new.standing ≡ Over)
+
+-- memory ran out behind lines that the talk answered itself, where it wasn't over and a line was next,
+-- whole or too long
+pub record Starves (old new : Talking) : Type 0 where
+  pub own : List Item
+  pub are_own : AreOwn own
+  pub standing : Standing
+  pub rest : List ℕ
+  pub advances : Advances old.gate old.standing old.waiting own standing rest
+  pub put : new.out ≡ old.out ++ out own []
+  pub going : standing ≢ Over
+  pub left : HasLine rest ⊎ HasLongLine rest rest
+  pub starved : new.starved ≡ true
+  pub asked : new.asked ≡ false
+
+-- a turn may be made of an ask that is given
+abbrev pub HasAskInRange : Turn → Type 0
+HasAskInRange (turn.Ask ask) = IsInRange ask
+HasAskInRange turn.Need = Unit {0}
+HasAskInRange turn.Over = Unit {0}
+
+-- These bytes were fed to a talk of this gate. They gave these items so far, whose asks have these answers,
+-- but for one that has none yet. What is due to them is what was sent, and then what is to be sent.
+pub record HasTalked
+    (gate : Gate) (fed : List ℕ) (items : List Item) (answers : List Answer) (sent : List ℕ) (talk : Talking)
+    : Type 0 where
+  pub gate : talk.gate ≡ gate
+  pub advances : Advances gate Nobody fed items talk.standing talk.waiting
+  pub answered : talk.asked ≡ false → length answers ≡ length (asks_of items)
+  pub asked : talk.asked ≡ true → length answers + 1 ≡ length (asks_of items)
+  pub put : sent ++ talk.out ≡ output gate items answers
