@@ -40,6 +40,7 @@ pub mod Requested
 pub mod Composed
 pub mod NothingDue
 pub mod Untouched
+pub mod Listed
 pub mod Turning
 pub mod BetweenTurns
 pub mod Onward

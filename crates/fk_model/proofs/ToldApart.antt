@@ -7,14 +7,17 @@ use Rattle.fk_frame.specs.declared.reply.Reply.TheVariants.{Status, Bulk, Nil}
 use Rattle.fk_frame.specs.Replies.{reply_bytes}
 use Rattle.fk_model.specs.declared.row.Row.{Row}
 use Rattle.fk_model.specs.declared.ask.Ask.{Ask}
-use Rattle.fk_model.specs.declared.ask.Ask.TheVariants.{Push, PushBatch, Fetch, Ack, Fail}
+use Rattle.fk_model.specs.declared.ask.Ask.TheVariants.{Hello, Push, PushBatch, Fetch, Ack, Fail, Beat, Signal, Tick}
+use Rattle.fk_model.specs.declared.work_state.WorkState.{WorkState}
+use Rattle.fk_model.specs.declared.work_state.WorkState.TheVariants.{Running, Quiet, Terminate}
 use Rattle.fk_job.specs.RowText.{row_text}
 use Rattle.fk_model.specs.Rows.{row_of}
 use Rattle.fk_model.specs.State.{State}
 use Rattle.fk_model.specs.Orders.{leased}
 use Rattle.fk_model.specs.Failing.{Reason, failed}
 use Rattle.fk_model.specs.Requests.{fetched}
-use Rattle.fk_model.specs.Said.{not_served, only_said, kept_and_said, handed_out, ok, unknown_job, said}
+use Rattle.fk_model.specs.Workers.{state_of}
+use Rattle.fk_model.specs.Said.{not_served, only_said, kept_and_said, handed_out, ok, unknown_job, unknown_worker, state_told, said}
 use Rattle.fk_model.specs.Turns.{up_to_date, turn}
 use Rattle.fk_model.specs.Answers.{turn_texts, IsToldApart}
 
@@ -65,8 +68,21 @@ a_fail : (s : State) (reason : Reason) (moment word : ℕ) (row : Option (ℕ ×
 a_fail s reason moment word None = an_error unknown_job 85 refl (omega arith) (omega arith) (omega arith)
 a_fail s reason moment word (Some filed) = a_status (codes "OK")
 
+-- a worker is told its state, or that it isn't known
+a_state : (told : Option WorkState) → IsToldApart (option_map_or state_told told unknown_worker)
+a_state None = an_error unknown_worker 85 refl (omega arith) (omega arith) (omega arith)
+a_state (Some Running) = a_status (codes "OK")
+a_state (Some Quiet) = a_bulk (codes "{\"state\":\"quiet\"}")
+a_state (Some Terminate) = a_bulk (codes "{\"state\":\"terminate\"}")
+
+-- a signal says OK, or that the worker isn't known
+a_signal : (told : Option WorkState) → IsToldApart (option_map_or (λ own. ok) told unknown_worker)
+a_signal None = an_error unknown_worker 85 refl (omega arith) (omega arith) (omega arith)
+a_signal (Some own) = a_status (codes "OK")
+
 what_is_said : (s : State) (ask : Ask) (moment word : ℕ) → IsToldApart (said s ask moment word).reply
 unfolding said
+what_is_said s (Hello wid) moment word = a_status (codes "OK")
 what_is_said s (Push job) moment word = a_status (codes "OK")
 what_is_said s (PushBatch jobs told) moment word = a_bulk told
 what_is_said s (Fetch wid queues) moment word = a_fetch s moment wid (fetched s wid queues)
@@ -74,6 +90,9 @@ what_is_said s (Ack jid) moment word = a_status (codes "OK")
 what_is_said s (Fail jid errtype message backtrace) moment word =
     a_fail s (record { errtype = errtype; message = message; backtrace = backtrace }) moment word
     (leased s.kept jid)
+what_is_said s (Beat wid) moment word = a_state (state_of wid s.workers)
+what_is_said s (Signal wid given) moment word = a_signal (state_of wid s.workers)
+what_is_said s Tick moment word = a_status (codes "OK")
 what_is_said s other moment word = what_is_not_served
 
 pub a_turn : (s : State) (ask : Ask) (moment word : ℕ) → IsToldApart (turn s ask moment word).reply

@@ -1,7 +1,6 @@
 -- One turn: its moves lead to its state, and what holds between turns holds behind it.
-use Rattle.std.proofs.Common.{◌≡◌, ◌≢◌, ◌↔◌, sym, refl, subst, ℕ, ◌<◌, ◌≤◌, List, [], ◌++◌, map, arith}
-use Rattle.std.specs.Prelude.{Option, None, Some, bytes_eq}
-use Rattle.std.specs.List.{IsDistinct}
+use Rattle.std.proofs.Common.{◌≡◌, ◌≢◌, ◌↔◌, sym, refl, subst, ℕ, ◌<◌, ◌≤◌, List, [], ◌++◌, arith}
+use Rattle.std.specs.Prelude.{Option, None, Some}
 use Rattle.std.specs.Option.{option_map_or}
 use Rattle.fk_time.specs.Moments.{greatest}
 use Rattle.fk_model.specs.declared.row.Row.{Row}
@@ -9,7 +8,7 @@ use Rattle.fk_model.specs.declared.ask.Ask.{Ask}
 use Rattle.fk_model.specs.declared.ask.Ask.TheVariants.{Push, PushBatch, Fetch, Ack, Fail}
 use Rattle.fk_model.specs.declared.move_.Move.{Move}
 use Rattle.fk_model.specs.Limits.{greatest_next}
-use Rattle.fk_model.specs.State.{KeptState, Worker, State}
+use Rattle.fk_model.specs.State.{KeptState, State}
 use Rattle.fk_model.specs.Orders.{leased}
 use Rattle.fk_model.specs.Between.{IsWellKept, IsBetweenTurns}
 use Rattle.fk_model.specs.Range.{IsInRange}
@@ -17,6 +16,7 @@ use Rattle.fk_model.specs.Changes.{after_moves, Lead, EndsWithTotals}
 use Rattle.fk_model.specs.Failing.{Reason, failed}
 use Rattle.fk_model.specs.Bringing.{brought_up, moves_up}
 use Rattle.fk_model.specs.Requests.{fetched, finished}
+use Rattle.fk_model.specs.Workers.{acted, after_turn, AreApart}
 use Rattle.fk_model.specs.Said.{kept_and_said, only_said, ok, unknown_job, said}
 use Rattle.fk_model.specs.Turns.{up_to_date, turn, moves_of, moves_of_turn}
 use Rattle.fk_model.specs.History.{IsOverLimit}
@@ -27,6 +27,7 @@ use Rattle.fk_model.proofs.Requested.{rows_of, numbers_of, after_fetch}
 use Rattle.fk_model.proofs.UpToDate.{up_are_rows, up_has_numbers, up_orderly}
 use Rattle.fk_model.proofs.Composed.{rows_both, numbers_both}
 use Rattle.fk_model.proofs.Untouched.{turn_changes}
+use Rattle.fk_model.proofs.Listed.{turn_apart}
 
 -- ---- the next number
 
@@ -148,16 +149,19 @@ fail_workers : (s : State) (reason : Reason) (moment word : ℕ) (found : Option
 fail_workers s reason moment word None = refl
 fail_workers s reason moment word (Some filed) = refl
 
-workers_of : (s : State) (ask : Ask) (moment word : ℕ) → (said s ask moment word).state.workers ≡ s.workers
+workers_of : (s : State) (ask : Ask) (moment word : ℕ)
+    → (said s ask moment word).state.workers ≡ acted ask moment s.workers
 unfolding said
-workers_of s (Push job) moment word = refl
-workers_of s (PushBatch jobs told) moment word = refl
 workers_of s (Fetch wid queues) moment word = fetch_workers s moment wid (fetched s wid queues)
-workers_of s (Ack jid) moment word = refl
 workers_of s (Fail jid errtype message backtrace) moment word =
     fail_workers s (record { errtype = errtype; message = message; backtrace = backtrace }) moment word
     (leased s.kept jid)
 workers_of s other moment word = refl
+
+-- what a turn makes of the workers
+pub turn_workers : (s : State) (ask : Ask) (moment word : ℕ)
+    → (turn s ask moment word).state.workers ≡ after_turn ask moment s.workers
+turn_workers s ask moment word = workers_of (up_to_date s moment word) ask moment word
 
 -- what holds between turns holds behind a turn
 pub turn_keeps : (s : State) (ask : Ask) (moment word : ℕ) → IsBetweenTurns s → IsInRange ask
@@ -167,6 +171,5 @@ turn_keeps s ask moment word ready range told within = record {
   kept = closed_well s.kept (parts_of s ask moment word) (turn s ask moment word).state.kept
       (turn_rows s ask moment word ready) (turn_numbers s ask moment word ready range told within)
       ready.kept;
-  names = subst (λ workers. IsDistinct bytes_eq (map (λ (worker : Worker). worker.wid) workers))
-      (sym (workers_of (up_to_date s moment word) ask moment word)) ready.names;
+  names = subst AreApart (sym (turn_workers s ask moment word)) (turn_apart ask moment s.workers ready.names);
 }
