@@ -1,6 +1,6 @@
--- What a PUSH, a PUSHB, a FETCH, an ACK and a FAIL ask for is in range, where what serde_json decodes or
--- writes of it is a text.
-use Rattle.std.proofs.Common.{◌≡◌, inl, inr, ℕ, ◌<◌, ◌≤◌, List, [], ◌∷◌, length, filter, slice_range, codes, Option, None, Some, sym, subst, arith}
+-- What a HELLO, a PUSH, a PUSHB, a FETCH, an ACK, a FAIL, a BEAT and a SIGNAL ask for is in range, where
+-- what serde_json decodes or writes of it is a text.
+use Rattle.std.proofs.Common.{◌≡◌, inl, inr, ℕ, ◌<◌, ◌≤◌, Bool, true, false, List, [], ◌∷◌, length, filter, slice_range, codes, Option, None, Some, if◌then◌else◌, option_and_then, sym, subst, arith}
 use Rattle.std.specs.Prelude.{All}
 use Rattle.std.specs.List.{slice_split}
 use Rattle.std.specs.Option.{option_map_or}
@@ -14,12 +14,15 @@ use Rattle.fk_frame.specs.Lines.{longest_line}
 use Rattle.fk_job.specs.Spellings.{HasJobSpelling, IsText}
 use Rattle.fk_job.proofs.JobSpelled.{job_spelled}
 use Rattle.fk_model.specs.declared.ask.Ask.{Ask}
-use Rattle.fk_model.specs.declared.ask.Ask.TheVariants.{Push, PushBatch, Fetch, Ack, Fail}
+use Rattle.fk_model.specs.declared.ask.Ask.TheVariants.{Hello, Push, PushBatch, Fetch, Ack, Fail, Beat, Signal}
+use Rattle.fk_model.specs.declared.work_state.WorkState.{WorkState}
 use Rattle.fk_model.specs.declared.item.Item.{Item}
 use Rattle.fk_model.specs.declared.item.Item.TheVariants.{Asks}
 use Rattle.fk_model.specs.Commands.{is_space}
-use Rattle.fk_model.specs.Payloads.{AreElements, Element, IsBatch, IsFetched, IsPushed, acknowledged, barred, is_some_text, jobs_among, or_default, queue_names, refused, reported, string_among, string_or_unknown, strings_among, taken}
+use Rattle.fk_model.specs.Payloads.{AreElements, Element, IsBatch, IsFetched, IsPushed, accepted, acknowledged, barred, beat, is_some_text, jobs_among, or_default, queue_names, refused, reported, signal, signal_to, state_named, string_among, string_or_unknown, strings_among, taken}
+use Rattle.fk_model.specs.Handshake.{Welcome, let_in, turned_away}
 use Rattle.fk_model.specs.Range.{AreJobs, HasJsonTexts, IsInRange}
+use Rattle.fk_model.specs.Script.{hello_item}
 use Rattle.fk_model.specs.Out.{asks_of}
 use Rattle.fk_model.specs.Spellings.{AreTexts}
 use Rattle.fk_model.proofs.Parted.{IsUpTo, elements_count, range_up_to, split_up_to}
@@ -48,6 +51,16 @@ as_it item other same fits = subst (λ one. AreAskable (one ∷ [])) (sym same) 
 
 one_askable : (ask : Ask) → IsAskable ask → AreAskable (Asks ask ∷ [])
 one_askable ask fits = All-cons IsAskable ask [] fits (All-nil IsAskable)
+
+-- ---- a HELLO
+
+let_in_askable : (wid : List ℕ) (some : Bool) → AreAskable ((if some then Asks (Hello wid) else accepted) ∷ [])
+let_in_askable wid true = one_askable (Hello wid) (λ is. is)
+let_in_askable wid false = none_askable
+
+pub hello_askable : (welcome : Welcome) → AreAskable (hello_item welcome ∷ [])
+hello_askable (turned_away reason) = none_askable
+hello_askable (let_in wid) = let_in_askable wid (is_some_text wid)
 
 -- ---- a PUSH
 
@@ -130,11 +143,10 @@ names_texts text is =
       );
     })
 
-pub fetch_askable : (text : List ℕ) (item : Item) → FitsLine text → IsFetched text item → AreAskable (item ∷ [])
-fetch_askable text item is same =
-    as_it item _ same
-    (one_askable (Fetch [] (queue_names text))
-    (λ told. (record { bytes = All-nil (λ b. b < 256); short = omega arith }, names_texts text is)))
+pub fetch_askable : (wid text : List ℕ) (item : Item) → FitsLine text → IsFetched wid text item
+    → AreAskable (item ∷ [])
+fetch_askable wid text item is same =
+    as_it item _ same (one_askable (Fetch wid (queue_names text)) (λ told. (told, names_texts text is)))
 
 -- ---- an ACK
 
@@ -163,3 +175,33 @@ fail_askable None = none_askable
 fail_askable (Some members) =
     report_askable (string_among (codes "jid") members) (string_or_unknown (codes "errtype") members)
     (string_or_unknown (codes "message") members) (strings_among (codes "backtrace") members)
+
+-- ---- a BEAT
+
+wid_askable : (wid : Option (List ℕ))
+    → AreAskable (option_map_or (λ wid. Asks (Beat wid)) wid (refused (codes "No wid")) ∷ [])
+wid_askable None = none_askable
+wid_askable (Some wid) = one_askable (Beat wid) (λ is. is)
+
+pub beat_askable : (found : Option Members)
+    → AreAskable (option_map_or beat found (refused (codes "Bad JSON")) ∷ [])
+beat_askable None = none_askable
+beat_askable (Some members) = wid_askable (string_among (codes "wid") members)
+
+-- ---- a SIGNAL
+
+state_askable : (wid : List ℕ) (state : Option WorkState)
+    → AreAskable (option_map_or (λ state. Asks (Signal wid state)) state (refused (codes "Bad state")) ∷ [])
+state_askable wid None = none_askable
+state_askable wid (Some state) = one_askable (Signal wid state) (λ is. is)
+
+signal_to_askable : (object : Members) (wid : Option (List ℕ))
+    → AreAskable (option_map_or (signal_to object) wid (refused (codes "No wid")) ∷ [])
+signal_to_askable object None = none_askable
+signal_to_askable object (Some wid) =
+    state_askable wid (option_and_then state_named (string_among (codes "state") object))
+
+pub signal_askable : (found : Option Members)
+    → AreAskable (option_map_or signal found (refused (codes "Bad JSON")) ∷ [])
+signal_askable None = none_askable
+signal_askable (Some members) = signal_to_askable members (string_among (codes "wid") members)

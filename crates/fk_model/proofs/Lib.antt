@@ -1,4 +1,3 @@
-pub mod Advance
 pub mod Histories
 pub mod ToldApart
 pub mod Outs

@@ -1,6 +1,6 @@
 -- Each list of lines gives one list of items at most: the text of a job, of an object and of an array
 -- is read as one thing.
-use Rattle.std.proofs.Common.{◌≡◌, inl, inr, ℕ, List, [], ◌∷◌, ◌++◌, slice_range, codes, refl, sym, ap, subst, ◌∙◌}
+use Rattle.std.proofs.Common.{◌≡◌, inl, inr, ℕ, List, [], ◌∷◌, ◌++◌, Option, None, Some, slice_range, codes, refl, sym, ap, subst, ◌∙◌}
 use Rattle.fk_json.specs.declared.span.Span.{Span}
 use Rattle.fk_json.specs.Json.{IsArrayText, most_levels}
 use Rattle.fk_json.proofs.OnePlace.{fails_or_deep, text_no_fault, text_not_deep}
@@ -13,13 +13,12 @@ use Rattle.fk_job.proofs.OneFault.{fault_one}
 use Rattle.fk_job.proofs.Present.{string_one}
 use Rattle.fk_job.specs.Fields.{HasString}
 use Rattle.fk_model.specs.declared.ask.Ask.TheVariants.{Push, PushBatch}
+use Rattle.fk_model.specs.declared.gate.Gate.{Gate}
 use Rattle.fk_model.specs.declared.item.Item.{Item}
 use Rattle.fk_model.specs.declared.item.Item.TheVariants.{Asks}
-use Rattle.fk_model.specs.declared.item.Phase.{Phase}
-use Rattle.fk_model.specs.declared.item.Phase.TheVariants.{Greeted, Accepted, Over}
 use Rattle.fk_model.specs.Commands.{arguments}
 use Rattle.fk_model.specs.Payloads.{AreElements, Element, HasKey, IsBatch, IsElement, IsPushed, barred, batch_text, fault_text, jobs_among, refused, taken}
-use Rattle.fk_model.specs.Script.{AreGiven, AreItemsFrom, AreItemsOf, Command, IsGiven, IsScript, ack, batch, command_of, end, fail, fetch, hello, phase_after, push, unknown}
+use Rattle.fk_model.specs.Script.{AreGiven, AreItemsFrom, AreItemsOf, Command, IsGiven, IsScript, ack, batch, beat, command_of, end, fail, fetch, hello, push, signal, speaker_after, talk_from, unknown}
 use Rattle.fk_model.proofs.Payload.{laws}
 use Rattle.fk_model.proofs.Total.{script_total}
 
@@ -98,65 +97,60 @@ batch_one text one other (inr (inr (at, deep, gives))) (inr (inr (place, low, gi
 
 -- ---- a line
 
-given_one : (command : Command) (text : List ℕ) (one other : Item) → IsGiven command text one
-    → IsGiven command text other → one ≡ other
-given_one end text one other is also = absurd is
-given_one hello text one other is also = is ∙ sym also
-given_one push text one other is also = push_one text one other is also
-given_one batch text one other is also = batch_one text one other is also
-given_one fetch text one other is also = is ∙ sym also
-given_one ack text one other is also = is ∙ sym also
-given_one fail text one other is also = is ∙ sym also
-given_one unknown text one other is also = is ∙ sym also
+given_one : (wid : List ℕ) (command : Command) (text : List ℕ) (one other : Item) → IsGiven wid command text one
+    → IsGiven wid command text other → one ≡ other
+given_one wid end text one other is also = absurd is
+given_one wid hello text one other is also = is ∙ sym also
+given_one wid push text one other is also = push_one text one other is also
+given_one wid batch text one other is also = batch_one text one other is also
+given_one wid fetch text one other is also = is ∙ sym also
+given_one wid ack text one other is also = is ∙ sym also
+given_one wid fail text one other is also = is ∙ sym also
+given_one wid beat text one other is also = is ∙ sym also
+given_one wid signal text one other is also = is ∙ sym also
+given_one wid unknown text one other is also = is ∙ sym also
 
 -- one thing is given for a line
-abbrev OneGiven : Command → List ℕ → List Item → Type 0
-OneGiven command text items = (item : Item) × IsGiven command text item × (items ≡ item ∷ [])
+abbrev OneGiven : List ℕ → Command → List ℕ → List Item → Type 0
+OneGiven wid command text items = (item : Item) × IsGiven wid command text item × (items ≡ item ∷ [])
 
-one_given : (command : Command) (text : List ℕ) (one other : List Item) → OneGiven command text one
-    → OneGiven command text other → one ≡ other
-one_given command text one other (given, is, whole) (found, also, all) =
-    whole ∙ ap (λ g. g ∷ []) (given_one command text given found is also) ∙ sym all
+one_given : (wid : List ℕ) (command : Command) (text : List ℕ) (one other : List Item) → OneGiven wid command text one
+    → OneGiven wid command text other → one ≡ other
+one_given wid command text one other (given, is, whole) (found, also, all) =
+    whole ∙ ap (λ g. g ∷ []) (given_one wid command text given found is also) ∙ sym all
 
-command_one : (command : Command) (text : List ℕ) (one other : List Item) → AreGiven command text one
-    → AreGiven command text other → one ≡ other
-command_one end text one other is also = is ∙ sym also
-command_one hello text one other is also = one_given hello text one other is also
-command_one push text one other is also = one_given push text one other is also
-command_one batch text one other is also = one_given batch text one other is also
-command_one fetch text one other is also = one_given fetch text one other is also
-command_one ack text one other is also = one_given ack text one other is also
-command_one fail text one other is also = one_given fail text one other is also
-command_one unknown text one other is also = one_given unknown text one other is also
+command_one : (wid : List ℕ) (command : Command) (text : List ℕ) (one other : List Item)
+    → AreGiven wid command text one → AreGiven wid command text other → one ≡ other
+command_one wid end text one other is also = is ∙ sym also
+command_one wid command text one other is also = one_given wid command text one other is also
 
-line_one : (phase : Phase) (line : Line) (one other : List Item) → AreItemsOf phase line one
-    → AreItemsOf phase line other → one ≡ other
+line_one : (gate : Gate) (speaker : Option (List ℕ)) (line : Line) (one other : List Item)
+    → AreItemsOf gate speaker line one → AreItemsOf gate speaker line other → one ≡ other
 unfolding AreItemsOf
-line_one Over line one other is also = is ∙ sym also
-line_one Greeted TooLong one other is also = is ∙ sym also
-line_one Accepted TooLong one other is also = is ∙ sym also
-line_one Greeted Need one other is also = is ∙ sym also
-line_one Accepted Need one other is also = is ∙ sym also
-line_one Greeted (Whole line) one other is also = is ∙ sym also
-line_one Accepted (Whole line) one other is also = command_one (command_of line) (arguments line) one other is also
+line_one gate speaker TooLong one other is also = is ∙ sym also
+line_one gate speaker Need one other is also = is ∙ sym also
+line_one gate None (Whole line) one other is also = is ∙ sym also
+line_one gate (Some wid) (Whole line) one other is also =
+    command_one wid (command_of line) (arguments line) one other is also
 
 -- ---- a stream
 
 joined_same : (first early others late : List Item) → first ≡ early → others ≡ late → first ++ others ≡ early ++ late
 joined_same first early others late fronts behind = rw (fronts, behind) refl
 
-pub script_one : (phase : Phase) (lines : List Line) (one other : List Item) → AreItemsFrom phase lines one
-    → AreItemsFrom phase lines other → one ≡ other
-script_one phase [] one other is also = is ∙ sym also
-script_one phase (line ∷ lines) one other (first, others, is, are, whole) (early, late, also, read, all) =
+pub script_one : (gate : Gate) (speaker : Option (List ℕ)) (lines : List Line) (one other : List Item)
+    → AreItemsFrom gate speaker lines one → AreItemsFrom gate speaker lines other → one ≡ other
+script_one gate speaker [] one other is also = is ∙ sym also
+script_one gate speaker (line ∷ lines) one other (first, others, is, are, whole) (early, late, also, read, all) =
     whole
-    ∙ joined_same first early others late (line_one phase line first early is also)
-    (script_one (phase_after phase line) lines others late are read)
+    ∙ joined_same first early others late (line_one gate speaker line first early is also)
+    (script_one gate (speaker_after gate speaker line) lines others late are read)
     ∙ sym all
 
 -- a stream has a script, and no other
-pub one_script : (bytes : List ℕ)
-    → (items : List Item) × IsScript bytes items × ((others : List Item) → IsScript bytes others → others ≡ items)
-one_script bytes =
-    let (items, is) = script_total laws Greeted (lines_of bytes) in
-    (items, is, λ others also. script_one Greeted (lines_of bytes) others items also is)
+pub one_script : (gate : Gate) (bytes : List ℕ) → (items : List Item) × IsScript gate bytes items
+    × ((others : List Item) → IsScript gate bytes others → others ≡ items)
+one_script gate bytes =
+    let lines = talk_from gate None (lines_of bytes) in
+    let (items, is) = script_total laws gate None lines in
+    (items, is, λ others also. script_one gate None lines others items also is)

@@ -6,11 +6,12 @@ use Rattle.fk_frame.specs.declared.reply.Reply.{Reply}
 use Rattle.fk_frame.specs.Replies.{reply_bytes}
 use Rattle.fk_model.specs.declared.answer.Answer.{Answer}
 use Rattle.fk_model.specs.declared.ask.Ask.{Ask}
+use Rattle.fk_model.specs.declared.gate.Gate.{Gate}
 use Rattle.fk_model.specs.declared.item.Item.{Item}
 use Rattle.fk_model.specs.declared.item.Item.TheVariants.{Own, Asks}
 use Rattle.fk_model.specs.Answers.{answer_bytes}
+use Rattle.fk_model.specs.Handshake.{greeting}
 use Rattle.fk_model.specs.Out.{asks_of, out, output, own_replies}
-use Rattle.fk_model.specs.Script.{greeting}
 
 -- ---- the asks and the own replies of two lists
 
@@ -49,12 +50,12 @@ out-append (Asks ask ∷ front) back (answer ∷ first) others each =
     ap (λ bytes. answer_bytes answer ++ bytes) (out-append front back first others (omega (arith, each)))
     ∙ sym (append_assoc (answer_bytes answer) (out front first) (out back others))
 
-pub output-append : (front back : List Item) (first others : List Answer)
+pub output-append : (gate : Gate) (front back : List Item) (first others : List Answer)
     → length first ≡ length (asks_of front)
-    → output (front ++ back) (first ++ others) ≡ output front first ++ out back others
-output-append front back first others each =
-    ap (λ bytes. greeting ++ bytes) (out-append front back first others each)
-    ∙ sym (append_assoc greeting (out front first) (out back others))
+    → output gate (front ++ back) (first ++ others) ≡ output gate front first ++ out back others
+output-append gate front back first others each =
+    ap (λ bytes. greeting gate ++ bytes) (out-append front back first others each)
+    ∙ sym (append_assoc (greeting gate) (out front first) (out back others))
 
 -- with no more answers, what is behind them is written up to its first ask
 pub out-front : (front back : List Item) (answers : List Answer) → length answers ≡ length (asks_of front)

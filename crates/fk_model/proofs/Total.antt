@@ -14,13 +14,12 @@ use Rattle.fk_job.specs.declared.job.Job.{Job}
 use Rattle.fk_job.specs.JobText.{HasFault, HasJid, IsJobOf}
 use Rattle.fk_job.specs.Members.{value_of}
 use Rattle.fk_model.specs.declared.ask.Ask.TheVariants.{Push, PushBatch, Fetch}
+use Rattle.fk_model.specs.declared.gate.Gate.{Gate}
 use Rattle.fk_model.specs.declared.item.Item.{Item}
 use Rattle.fk_model.specs.declared.item.Item.TheVariants.{Asks}
-use Rattle.fk_model.specs.declared.item.Phase.{Phase}
-use Rattle.fk_model.specs.declared.item.Phase.TheVariants.{Greeted, Accepted, Over}
 use Rattle.fk_model.specs.Commands.{arguments}
-use Rattle.fk_model.specs.Payloads.{Element, taken, barred, fault_text, refused, acknowledged, reported, batch_text, jobs_among, object_read, queue_names, HasKey, IsElement, AreElements, IsPushed, IsBatch}
-use Rattle.fk_model.specs.Script.{Command, end, hello, push, batch, fetch, ack, fail, unknown, command_of, handshake_items, not_served, too_long, phase_after, AreGiven, AreItemsOf, AreItemsFrom}
+use Rattle.fk_model.specs.Payloads.{Element, taken, barred, fault_text, refused, acknowledged, reported, batch_text, jobs_among, object_read, queue_names, HasKey, IsElement, AreElements, IsPushed, IsBatch, beat as beat_item, signal as signal_item}
+use Rattle.fk_model.specs.Script.{Command, end, hello, push, batch, fetch, ack, fail, beat, signal, unknown, command_of, handshake_items, too_long, speaker_after, AreGiven, AreItemsOf, AreItemsFrom}
 
 -- ---- what is decided of texts
 
@@ -128,37 +127,44 @@ batch_total laws arguments = batch_as laws arguments (laws.arrays arguments)
 
 -- ---- lines
 
-given_total : Laws → (command : Command) (arguments : List ℕ) → (items : List Item) × AreGiven command arguments items
-given_total laws end arguments = ([], refl)
-given_total laws hello arguments = (not_served ∷ [], (not_served, refl, refl))
-given_total laws push arguments =
+given_total : Laws → (wid : List ℕ) (command : Command) (arguments : List ℕ)
+    → (items : List Item) × AreGiven wid command arguments items
+given_total laws wid end arguments = ([], refl)
+given_total laws wid hello arguments =
+    let reply = refused (codes "Already said HELLO") in (reply ∷ [], (reply, refl, refl))
+given_total laws wid push arguments =
     let found = push_total laws arguments in (found.0 ∷ [], (found.0, found.1, refl))
-given_total laws batch arguments =
+given_total laws wid batch arguments =
     let found = batch_total laws arguments in (found.0 ∷ [], (found.0, found.1, refl))
-given_total laws fetch arguments =
-    let item = Asks (Fetch [] (queue_names arguments)) in (item ∷ [], (item, refl, refl))
-given_total laws ack arguments =
+given_total laws wid fetch arguments =
+    let item = Asks (Fetch wid (queue_names arguments)) in (item ∷ [], (item, refl, refl))
+given_total laws wid ack arguments =
     let item = option_map_or acknowledged (object_read arguments) (refused (codes "Bad JSON")) in
     (item ∷ [], (item, refl, refl))
-given_total laws fail arguments =
+given_total laws wid fail arguments =
     let item = option_map_or reported (object_read arguments) (refused (codes "Bad JSON")) in
     (item ∷ [], (item, refl, refl))
-given_total laws unknown arguments =
+given_total laws wid beat arguments =
+    let item = option_map_or beat_item (object_read arguments) (refused (codes "Bad JSON")) in
+    (item ∷ [], (item, refl, refl))
+given_total laws wid signal arguments =
+    let item = option_map_or signal_item (object_read arguments) (refused (codes "Bad JSON")) in
+    (item ∷ [], (item, refl, refl))
+given_total laws wid unknown arguments =
     let reply = refused (codes "Unknown command") in (reply ∷ [], (reply, refl, refl))
 
-pub line_total : Laws → (phase : Phase) (line : Line) → (items : List Item) × AreItemsOf phase line items
+pub line_total : Laws → (gate : Gate) (speaker : Option (List ℕ)) (line : Line)
+    → (items : List Item) × AreItemsOf gate speaker line items
 unfolding AreItemsOf
-line_total laws Over line = ([], refl)
-line_total laws Greeted TooLong = (too_long ∷ [], refl)
-line_total laws Accepted TooLong = (too_long ∷ [], refl)
-line_total laws Greeted Need = ([], refl)
-line_total laws Accepted Need = ([], refl)
-line_total laws Greeted (Whole line) = (handshake_items line (command_of line), refl)
-line_total laws Accepted (Whole line) = given_total laws (command_of line) (arguments line)
+line_total laws gate speaker TooLong = (too_long ∷ [], refl)
+line_total laws gate speaker Need = ([], refl)
+line_total laws gate None (Whole line) = (handshake_items gate (command_of line) (arguments line), refl)
+line_total laws gate (Some wid) (Whole line) = given_total laws wid (command_of line) (arguments line)
 
-pub script_total : Laws → (phase : Phase) (lines : List Line) → (items : List Item) × AreItemsFrom phase lines items
-script_total laws phase [] = ([], refl)
-script_total laws phase (line ∷ lines) =
-    let first = line_total laws phase line in
-    let others = script_total laws (phase_after phase line) lines in
+pub script_total : Laws → (gate : Gate) (speaker : Option (List ℕ)) (lines : List Line)
+    → (items : List Item) × AreItemsFrom gate speaker lines items
+script_total laws gate speaker [] = ([], refl)
+script_total laws gate speaker (line ∷ lines) =
+    let first = line_total laws gate speaker line in
+    let others = script_total laws gate (speaker_after gate speaker line) lines in
     (first.0 ++ others.0, (first.0, others.0, first.1, others.1, refl))
