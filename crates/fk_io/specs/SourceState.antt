@@ -1,12 +1,14 @@
 -- A source in memory, as a test lays it out.
-use Rattle.std.specs.Prelude.{ℕ, ◌==◌, Bool, List, [], ◌∷◌, length, drop, min, max, if◌then◌else◌}
+use Rattle.std.specs.Prelude.{ℕ, ◌==◌, Bool, List, [], ◌∷◌, length, take, drop, min, max}
+use Rattle.std.specs.Prelude.{if◌then◌else◌}
 use Rattle.std.specs.List.{list_any}
 use Rattle.fk_io.specs.Faults.{one_more}
 
--- the bytes to come, the most bytes of each piece to come, the numbers of the calls that fail, how
--- many calls there were, and how many of them failed
+-- the bytes to come, those of the last good read, the most bytes of each piece to come, the numbers of
+-- the calls that fail, how many calls there were, and how many of them failed
 pub record SourceState : Type 0 where
   pub left : List ℕ
+  pub last : List ℕ
   pub cuts : List ℕ
   pub failing : List ℕ
   pub calls : ℕ
@@ -34,6 +36,7 @@ after_read source asked =
     then record source { calls = one_more source.calls; faults = one_more source.faults }
     else record source {
       left = drop (piece_length source asked) source.left;
+      last = take (piece_length source asked) source.left;
       cuts = drop 1 source.cuts;
       calls = one_more source.calls;
     }

@@ -1,5 +1,5 @@
 ghost use Rattle.std.specs.Prelude.{◌≡◌, ◌≢◌, ◌≤◌, [], None, Some, Ok, length, take, drop, is_ok, not, IfOk, OnErr};
-ghost use Rattle.fk_io.specs.Content.{Took, IsAtEnd};
+ghost use Rattle.fk_io.specs.Content.{Took, WasGiven, IsAtEnd};
 ghost use Rattle.fk_io.specs.Faults.{HasCause, one_more};
 ghost use Rattle.fk_io.specs.SourceState.{is_listed, piece_length, after_read};
 
@@ -12,6 +12,8 @@ use std::marker::Model;
 #[derive(Drop)]
 pub struct ByteSource {
     bytes: Vec<u8>,
+    // where the last piece begins
+    begun: usize,
     given: usize,
     cuts: Vec<usize>,
     cuts_used: usize,
@@ -21,7 +23,7 @@ pub struct ByteSource {
 }
 
 impl Model for ByteSource {
-    ghost use Rattle.std.specs.Prelude.{drop};
+    ghost use Rattle.std.specs.Prelude.{take, drop};
     ghost use Rattle.fk_io.specs.SourceState.{SourceState};
     ghost use Rattle.fk_io.specs.Progress.{IsWithin};
 
@@ -29,13 +31,15 @@ impl Model for ByteSource {
 
     ghost view = { λ s. record {
       left = drop s.given s.bytes.items;
+      last = drop s.begun (take s.given s.bytes.items);
       cuts = drop s.cuts_used s.cuts.items;
       failing = s.failing.items;
       calls = s.calls;
       faults = s.faults;
     } };
 
-    ghost invariant = { λ s. IsWithin s.bytes.items s.given s.cuts.items s.cuts_used s.faults };
+    ghost invariant = { λ s.
+        IsWithin s.bytes.items s.begun s.given s.cuts.items s.cuts_used s.faults };
 }
 
 impl ByteSource {
@@ -50,6 +54,7 @@ impl ByteSource {
     ) -> Result<ByteSource, AllocError>
         ensures { IfOk result (λ source. source ≡ record {
           left = bytes.now;
+          last = [];
           cuts = cuts.now;
           failing = failing.now;
           calls = 0;
@@ -58,6 +63,7 @@ impl ByteSource {
     {
         Ok(ByteSource {
             bytes: Vec::from_slice(alloc, bytes)?,
+            begun: 0,
             given: 0,
             cuts: Vec::from_slice(alloc, cuts)?,
             cuts_used: 0,
@@ -99,10 +105,12 @@ impl ByteSource {
         requires { n ≤ length self.old.left }
         ensures { self.new ≡ record self.old {
           left = drop n self.old.left;
+          last = take n self.old.left;
           cuts = drop 1 self.old.cuts;
           calls = one_more self.old.calls;
         } }
     {
+        self.begun = self.given;
         self.given += n;
         self.cuts_used = (self.cuts_used + 1).min(self.cuts.as_slice().len());
         self.calls = raised(self.calls);
@@ -110,7 +118,11 @@ impl ByteSource {
 }
 
 impl Source for ByteSource {
-    ghost supply = { λ s. record { left = Some s.left; faults = s.faults } };
+    ghost supply = { λ s. record {
+      left = Some s.left;
+      last = Some s.last;
+      faults = s.faults;
+    } };
 
     /// A listed call fails. Any other gives the next piece.
     #[tactic(auto, using(crate::proofs::Pieces::front_then_rest))]
@@ -118,9 +130,12 @@ impl Source for ByteSource {
         ensures count { IfOk result (λ n. n ≤ length into.new) }
         ensures taken { IfOk result (λ n.
             Took (Some self.old.left) (take n into.new) (Some self.new.left)) }
+        ensures last { IfOk result (λ n.
+            WasGiven (Some self.old.last) (take n into.new) (Some self.new.last)) }
         ensures rest { IfOk result (λ n. drop n into.new ≡ drop n into.old) }
         ensures end { result ≡ Ok 0 → into.old ≢ [] → IsAtEnd (Some self.old.left) }
         ensures same { OnErr result (Some self.new.left ≡ Some self.old.left) }
+        ensures again { OnErr result (Some self.new.last ≡ Some self.old.last) }
         ensures cause { HasCause self.old.faults self.new.faults result }
 
         // Beyond what the trait says: which calls fail, how long a piece is, and what is used up.

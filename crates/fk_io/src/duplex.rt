@@ -26,7 +26,11 @@ mod tests {
     }
 
     impl Source for Wire {
-        ghost supply = { λ wire. record { left = Some wire.from.left; faults = wire.from.faults } };
+        ghost supply = { λ wire. record {
+          left = Some wire.from.left;
+          last = Some wire.from.last;
+          faults = wire.from.faults;
+        } };
 
         ghost sink_side = { λ wire. record { held = Some wire.to.held; faults = wire.to.faults } };
 
@@ -40,6 +44,7 @@ mod tests {
 
         ghost source_side = { λ wire. record {
           left = Some wire.from.left;
+          last = Some wire.from.last;
           faults = wire.from.faults;
         } };
 

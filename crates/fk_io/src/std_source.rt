@@ -60,7 +60,7 @@ fn read_some<R: Read>(reader: &mut R, into: &mut [u8]) -> Result<usize, Failed>
 }
 
 impl<R: Input> Source for StdSource<R> {
-    ghost supply = { λ s. record { left = None; faults = s } };
+    ghost supply = { λ s. record { left = None; last = None; faults = s } };
 
     fn take(&mut self, into: &mut [u8]) -> Result<usize, Failed> {
         // A read may leave anything behind the bytes that it gives, so they are read aside.
