@@ -7,7 +7,7 @@ use Rattle.std.proofs.lemmas.Map.Keys.{IsDistinct-head, IsDistinct-tail, IsDisti
 use Rattle.fk_model.specs.declared.ask.Ask.{Ask}
 use Rattle.fk_model.specs.declared.ask.Ask.TheVariants.{Hello, Beat, Signal}
 use Rattle.fk_model.specs.State.{Worker}
-use Rattle.fk_model.specs.Workers.{acted, after_turn, changed, fresh, greeted, is_kept, is_named, newcomer, AreApart}
+use Rattle.fk_model.specs.Workers.{acted, after_turn, changed, fresh, introduced, is_fresh, is_named, newcomer, AreApart}
 
 -- the wids of workers
 abbrev pub wids_of : List Worker → List (List ℕ)
@@ -43,7 +43,7 @@ left_apart test (worker ∷ workers) apart =
     step false rest = rest
 
 pub fresh_apart : (moment : ℕ) (workers : List Worker) → AreApart workers → AreApart (fresh moment workers)
-fresh_apart moment workers apart = left_apart (λ worker. is_kept moment worker.seen) workers apart
+fresh_apart moment workers apart = left_apart (λ worker. is_fresh moment worker.seen) workers apart
 
 -- ---- one that is changed
 
@@ -82,7 +82,7 @@ wids_behind worker (one ∷ workers) =
     ap (λ (names : List (List ℕ)). one.wid ∷ names) (wids_behind worker workers)
 
 greeted_apart : (wid : List ℕ) (moment : ℕ) (workers : List Worker) → AreApart workers
-    → AreApart (greeted wid moment workers)
+    → AreApart (introduced wid moment workers)
 greeted_apart wid moment workers apart = step (list_any (is_named wid) workers) refl
   where
     step : (b : Bool) → list_any (is_named wid) workers ≡ b

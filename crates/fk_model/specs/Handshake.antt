@@ -1,5 +1,6 @@
 -- The handshake, after Faktory's protocol specification: the server speaks first, and the client answers by a
--- HELLO. How the hash of a password is taken is this server's own; SHA-256 is that of FIPS 180-4.
+-- HELLO. How the hash of a password is taken, what an empty or null wid says, and the texts of refusals are
+-- this server's own; SHA-256 is that of FIPS 180-4.
 use Rattle.std.specs.Prelude.{ℕ, zero, suc, List, [], ◌++◌, Bool, true, false, ◌==◌, bytes_eq, codes, if◌then◌else◌, Option, Some, option_and_then}
 use Rattle.std.specs.Option.{option_map_or}
 use Rattle.std.specs.Fmt.{decimal}
@@ -18,7 +19,8 @@ unfoldable pub hashed : ℕ → List ℕ → List ℕ
 hashed zero bytes = bytes
 hashed (suc times) bytes = hashed times (sha256 bytes)
 
--- what is hashed first is the password and, behind it, the salt; the hash is told in hexadecimal digits
+-- what is hashed first is the password and, behind it, the salt's text; the hash, which is taken at least once,
+-- is told in hexadecimal digits
 abbrev pub pass_hash : List ℕ → List ℕ → ℕ → List ℕ
 pass_hash password salt rounds = encode_lower (hashed rounds (password ++ salt))
 
@@ -39,7 +41,7 @@ greeting gate =
 -- ---- a HELLO
 
 -- what becomes of a HELLO: it is refused with these words, or accepted from the worker of this wid, or from a
--- producer where that is empty
+-- producer, whose wid is empty
 pub data Welcome : Type 0 where
   turned_away : List ℕ → Welcome
   let_in : List ℕ → Welcome
@@ -49,7 +51,8 @@ abbrev pub wid_of : Data → Option (List ℕ)
 wid_of null = Some []
 wid_of other = as_str other
 
--- the wid of a HELLO, empty where it has none; there is no answer where it has one that is no string
+-- the wid of a HELLO, empty where it has none; there is no answer where it has one that is neither null nor
+-- a string
 abbrev pub wid_said : Members → Option (List ℕ)
 wid_said members = option_map_or wid_of (get_member (codes "wid") members) (Some [])
 
@@ -77,7 +80,7 @@ welcome_of gate members =
     else turned_away (codes "Bad version"))
     (wid_said members) (turned_away (codes "Bad HELLO"))
 
--- what becomes of a HELLO of these arguments, which are an object
+-- what becomes of a HELLO of these arguments, which have to be an object
 abbrev pub welcome : Gate → List ℕ → Welcome
 welcome gate arguments =
     option_map_or (welcome_of gate) (object_read arguments) (turned_away (codes "Bad HELLO"))

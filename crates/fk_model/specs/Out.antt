@@ -30,6 +30,6 @@ out (Own reply ∷ items) answers = reply_bytes reply ++ out items answers
 out (Asks ask ∷ items) [] = []
 out (Asks ask ∷ items) (answer ∷ answers) = answer_bytes answer ++ out items answers
 
--- all that is written to a client whose bytes give these items
+-- all that is due to a client whose bytes give these items
 abbrev pub output : Gate → List Item → List Answer → List ℕ
 output gate items answers = greeting gate ++ out items answers

@@ -1,5 +1,6 @@
 -- What a PUSH, a PUSHB, a FETCH, an ACK, a FAIL, a BEAT and a SIGNAL give, after Faktory's protocol
--- specification: what a turn is asked for, or a refusal. SIGNAL and the texts are this server's own.
+-- specification: what a turn is asked for, or a refusal. SIGNAL, the texts, and what a FETCH without a name
+-- and a member that is null or empty say are this server's own.
 use Rattle.std.specs.Prelude.{◌≡◌, ◌⊎◌, ℕ, List, [], ◌∷◌, ◌++◌, length, nat_lt, Bool, if◌then◌else◌, Option, None, Some, bytes_eq, option_and_then, unwrap_or, filter, codes, slice_range}
 use Rattle.std.specs.List.{filter_map, slice_split}
 use Rattle.std.specs.Option.{option_map_or}
@@ -126,7 +127,7 @@ abbrev pub queue_names : List ℕ → List (List ℕ)
 queue_names arguments = or_default (filter is_some_text (slice_split is_space arguments))
 
 -- a FETCH asks for a job of the first of these queues that has one, for the worker of a wid, or for a
--- producer where that is empty
+-- producer, whose wid is empty
 abbrev pub IsFetched : List ℕ → List ℕ → Item → Type 0
 IsFetched wid arguments item = item ≡ Asks (Fetch wid (queue_names arguments))
 
@@ -152,7 +153,7 @@ acknowledged members =
     option_map_or (λ jid. Asks (Ack jid)) (string_among (codes "jid") members)
     (refused (codes "No jid"))
 
--- an ACK acknowledges the jid of its arguments, or is refused where they are no object
+-- an ACK acknowledges the jid of its arguments, or is refused where they are no object or have none
 abbrev pub IsAcknowledged : List ℕ → Item → Type 0
 IsAcknowledged arguments item =
     item ≡ option_map_or acknowledged (object_read arguments) (refused (codes "Bad JSON"))
@@ -184,7 +185,7 @@ reported members =
     (string_or_unknown (codes "message") members) (strings_among (codes "backtrace") members)))
     (string_among (codes "jid") members) (refused (codes "No jid"))
 
--- a FAIL reports the jid of its arguments, or is refused where they are no object
+-- a FAIL reports the jid of its arguments, or is refused where they are no object or have none
 abbrev pub IsReported : List ℕ → Item → Type 0
 IsReported arguments item =
     item ≡ option_map_or reported (object_read arguments) (refused (codes "Bad JSON"))
@@ -197,7 +198,7 @@ beat members =
     option_map_or (λ wid. Asks (Beat wid)) (string_among (codes "wid") members)
     (refused (codes "No wid"))
 
--- a BEAT tells of the wid of its arguments, or is refused where they are no object
+-- a BEAT tells of the wid of its arguments, or is refused where they are no object or have none
 abbrev pub IsBeat : List ℕ → Item → Type 0
 IsBeat arguments item =
     item ≡ option_map_or beat (object_read arguments) (refused (codes "Bad JSON"))
@@ -223,7 +224,7 @@ signal members =
     option_map_or (signal_to members) (string_among (codes "wid") members)
     (refused (codes "No wid"))
 
--- a SIGNAL tells of the wid of its arguments, or is refused where they are no object
+-- a SIGNAL gives a state to the wid of its arguments, or is refused where they are no object or lack one
 abbrev pub IsSignal : List ℕ → Item → Type 0
 IsSignal arguments item =
     item ≡ option_map_or signal (object_read arguments) (refused (codes "Bad JSON"))

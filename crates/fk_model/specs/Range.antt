@@ -1,4 +1,4 @@
--- The asks that a turn may be made of: what they bring can be written into a file.
+-- The asks that a turn may be made of: what they bring is within the bounds of what a file can hold.
 use Rattle.std.specs.Prelude.{◌<◌, List, length, IfSome, All}
 use Rattle.fk_job.specs.declared.job.Job.{Job}
 use Rattle.fk_job.specs.Spellings.{HasJobSpelling, IsText, text_limit}
@@ -34,8 +34,9 @@ IsInRange Flush = Unit {0}
 IsInRange (Mutate cmd target filter) = IsFilter filter
 IsInRange Tick = Unit {0}
 
--- What serde_json decodes of an ask's line, or writes for it, is a text, and there are fewer than 2^32 where
--- it decodes many. No clause of serde_json bounds it by the line, so its length is tested where it comes.
+-- What serde_json decodes of an ask's line, or of the HELLO before it, or writes for it, is a text, and there
+-- are fewer than 2^32 where it decodes many. No clause of serde_json bounds it by the line, so its length is
+-- tested where it comes.
 abbrev pub HasJsonTexts : Ask → Type 0
 HasJsonTexts (Hello wid) = IsText wid
 HasJsonTexts (PushBatch jobs told) = IsText told

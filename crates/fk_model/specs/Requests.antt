@@ -1,4 +1,4 @@
--- What each request changes in the kept state.
+-- What each request but a FAIL changes in the kept state.
 use Rattle.std.specs.Prelude.{ℕ, ◌+◌, ◌*◌, ◌&&◌, nat_lt, not, Bool, true, false, if◌then◌else◌, List, Option, None, Some, unwrap_or, bytes_eq, fold}
 use Rattle.std.specs.List.{list_any}
 use Rattle.fk_job.specs.declared.job.Job.{Job}

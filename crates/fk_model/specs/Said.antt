@@ -13,7 +13,7 @@ use Rattle.fk_model.specs.Rows.{ticket_of, row_of}
 use Rattle.fk_model.specs.State.{KeptState, State, Worker}
 use Rattle.fk_model.specs.Orders.{leased}
 use Rattle.fk_model.specs.Failing.{Reason, failed}
-use Rattle.fk_model.specs.Workers.{beaten, greeted, signalled, state_of}
+use Rattle.fk_model.specs.Workers.{seen_again, introduced, signalled, state_of}
 use Rattle.fk_model.specs.Requests.{pushed, all_pushed, fetched, reserved, finished}
 
 -- what a request does: the state that it leaves, and what is said to it
@@ -78,7 +78,7 @@ state_told Terminate = Bulk (codes "{\"state\":\"terminate\"}")
 -- a beat: the worker is seen, and told its state, if it is listed
 abbrev pub beat_effect : State → List ℕ → ℕ → Effect
 beat_effect state wid moment =
-    listed_and_said state (beaten wid moment state.workers)
+    listed_and_said state (seen_again wid moment state.workers)
     (option_map_or state_told (state_of wid state.workers) unknown_worker)
 
 -- a signal: the worker gets the state, unless it has a greater one, if it is listed
@@ -88,9 +88,9 @@ signal_effect state wid given =
     (option_map_or (λ own. ok) (state_of wid state.workers) unknown_worker)
 
 -- what is said to a request, and the state that it leaves, by the moment and the word of its turn; what no
--- line asks for yet changes nothing, and the last line goes with the last request
+-- line asks for yet changes nothing, and the last clause goes with the last request
 unfoldable pub said : State → Ask → ℕ → ℕ → Effect
-said state (Hello wid) moment word = listed_and_said state (greeted wid moment state.workers) ok
+said state (Hello wid) moment word = listed_and_said state (introduced wid moment state.workers) ok
 said state (Push job) moment word = kept_and_said state (pushed moment state.kept job) ok
 said state (PushBatch jobs told) moment word =
     kept_and_said state (all_pushed moment state.kept jobs) (Bulk told)

@@ -1,5 +1,6 @@
--- The script of a stream, after Faktory's protocol specification: what the server replies of its own,
--- and what turns it asks for, on a connection of its own.
+-- The script of a stream, after Faktory's protocol specification: what the server replies of its own, and
+-- what turns the stream asks for, on a connection of its own. The texts of errors, the answer to a second
+-- HELLO, and the longest line are this server's own.
 use Rattle.std.specs.Prelude.{◌≡◌, ℕ, true, List, [], ◌∷◌, ◌++◌, ◌||◌, Bool, false, codes, if◌then◌else◌, Option, None, Some}
 use Rattle.fk_frame.specs.declared.line_reader.Line.{Line}
 use Rattle.fk_frame.specs.declared.line_reader.Line.TheVariants.{Whole, Need, TooLong}
@@ -56,7 +57,7 @@ handshake_items gate end arguments = []
 handshake_items gate hello arguments = hello_item (welcome gate arguments) ∷ []
 handshake_items gate other arguments = hello_first ∷ []
 
--- who is let in by it: nobody, or the worker of a wid, or a producer, of whom it is empty
+-- who is let in by it: nobody, or the worker of a wid, or a producer, whose wid is empty
 abbrev pub let_in_by : Welcome → Option (List ℕ)
 let_in_by (turned_away reason) = None
 let_in_by (let_in wid) = Some wid
@@ -65,11 +66,12 @@ abbrev pub let_in_after : Gate → Command → List ℕ → Option (List ℕ)
 let_in_after gate hello arguments = let_in_by (welcome gate arguments)
 let_in_after gate other arguments = None
 
--- it ends the talk: END does, and a HELLO that is refused
+-- it is refused
 abbrev pub is_refusal : Welcome → Bool
 is_refusal (turned_away reason) = true
 is_refusal (let_in wid) = false
 
+-- a command ends the talk: END does, and a HELLO that is refused
 abbrev pub ends_handshake : Gate → Command → List ℕ → Bool
 ends_handshake gate end arguments = true
 ends_handshake gate hello arguments = is_refusal (welcome gate arguments)
@@ -77,7 +79,7 @@ ends_handshake gate other arguments = false
 
 -- ---- behind an accepted HELLO
 
--- what a command gives to the worker of a wid, or to a producer, of whom it is empty
+-- what a command gives to the worker of a wid, or to a producer, whose wid is empty
 abbrev pub IsGiven : List ℕ → Command → List ℕ → Item → Type 0
 IsGiven wid end arguments item = ⊥
 IsGiven wid hello arguments item = item ≡ refused (codes "Already said HELLO")
@@ -148,7 +150,7 @@ AreItemsFrom gate speaker (line ∷ lines) items =
     (first others : List Item) × AreItemsOf gate speaker line first
     × AreItemsFrom gate (speaker_after gate speaker line) lines others × (items ≡ first ++ others)
 
--- what a stream gives: its lines are cut at the first that ends the talk, and a last line without its
+-- what a stream gives: its lines are cut behind the first that ends the talk, and a last line without its
 -- end is ignored, unless it is too long
 abbrev pub IsScript : Gate → List ℕ → List Item → Type 0
 IsScript gate bytes items = AreItemsFrom gate None (talk_from gate None (lines_of bytes)) items

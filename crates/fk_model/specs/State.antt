@@ -17,7 +17,7 @@ pub record Worker : Type 0 where
   pub state : WorkState
   pub seen : ℕ
 
--- the state: what is kept, and the workers in the order in which they came
+-- the state: what is kept, and the workers in the order in which they first came
 pub record State : Type 0 where
   pub kept : KeptState
   pub workers : List Worker

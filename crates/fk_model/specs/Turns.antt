@@ -33,7 +33,7 @@ moves_of_push moment next jobs =
     map (λ ticketed. Add ticketed.0 (pushed_row moment ticketed.0 ticketed.1))
     (enumerate_from next jobs)
 
--- a row gets a new place
+-- a row gets a new place, and is told with what else moves tell of a row
 abbrev pub move_to : ℕ → Row → Move
 move_to ticket row = Put ticket row.stamp.enqueued row.stamp.failure row.place
 
@@ -43,7 +43,7 @@ moves_of_fail kept jid reason moment word =
     moves_of_failed reason moment word (option_to_list (leased kept jid))
 
 -- what a request changes, row by row, in a state that was brought up to date from another kept state,
--- which no request of today looks at; the last line goes with the last request
+-- which no request of today looks at; the last clause goes with the last request
 unfoldable pub moves_of : KeptState → State → Ask → ℕ → ℕ → List Move
 moves_of before state (Push job) moment word = moves_of_push moment state.kept.next (job ∷ [])
 moves_of before state (PushBatch jobs told) moment word = moves_of_push moment state.kept.next jobs

@@ -16,12 +16,12 @@ abbrev pub forget_after : ℕ
 forget_after = 60_000
 
 -- a worker that was seen then is kept at a moment
-abbrev pub is_kept : ℕ → ℕ → Bool
-is_kept moment seen = nat_lt moment (seen + forget_after)
+abbrev pub is_fresh : ℕ → ℕ → Bool
+is_fresh moment seen = nat_lt moment (seen + forget_after)
 
 -- the workers that aren't to be forgotten at a moment
 abbrev pub fresh : ℕ → List Worker → List Worker
-fresh moment workers = filter (λ worker. is_kept moment worker.seen) workers
+fresh moment workers = filter (λ worker. is_fresh moment worker.seen) workers
 
 -- ---- who is listed
 
@@ -53,15 +53,15 @@ abbrev pub newcomer : List ℕ → ℕ → Worker
 newcomer wid moment = record { wid = wid; state = Running; seen = moment }
 
 -- a worker says its name: who has that wid is replaced in its place, and a new one goes last
-abbrev pub greeted : List ℕ → ℕ → List Worker → List Worker
-greeted wid moment workers =
+abbrev pub introduced : List ℕ → ℕ → List Worker → List Worker
+introduced wid moment workers =
     if list_any (is_named wid) workers
     then changed (λ worker. newcomer wid moment) wid workers
     else workers ++ newcomer wid moment ∷ []
 
 -- the worker of a wid is seen at a moment
-abbrev pub beaten : List ℕ → ℕ → List Worker → List Worker
-beaten wid moment workers = changed (λ worker. record worker { seen = moment }) wid workers
+abbrev pub seen_again : List ℕ → ℕ → List Worker → List Worker
+seen_again wid moment workers = changed (λ worker. record worker { seen = moment }) wid workers
 
 -- how far a worker is told to end: the states rise in this order
 abbrev pub level : WorkState → ℕ
@@ -80,8 +80,8 @@ signalled wid state workers =
 
 -- what an ask makes of the workers; any that isn't named here leaves them as they are
 abbrev pub acted : Ask → ℕ → List Worker → List Worker
-acted (Hello wid) moment workers = greeted wid moment workers
-acted (Beat wid) moment workers = beaten wid moment workers
+acted (Hello wid) moment workers = introduced wid moment workers
+acted (Beat wid) moment workers = seen_again wid moment workers
 acted (Signal wid state) moment workers = signalled wid state workers
 acted other moment workers = workers
 

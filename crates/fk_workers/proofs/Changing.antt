@@ -10,7 +10,7 @@ use Rattle.indexmap.specs.IndexMap.{insert_entry}
 use Rattle.fk_model.specs.declared.work_state.WorkState.TheVariants.{Running}
 use Rattle.fk_model.specs.State.{Worker}
 use Rattle.fk_workers.specs.declared.heard.Heard.{Heard}
-use Rattle.fk_model.specs.Workers.{changed, greeted, is_named, newcomer, state_of}
+use Rattle.fk_model.specs.Workers.{changed, introduced, is_named, newcomer, state_of}
 use Rattle.fk_workers.specs.Entries.{Entry, worker_of, workers_of}
 
 -- ---- a look-up
@@ -96,15 +96,15 @@ if_cons false one xs ys = refl
 -- the one that has the wid is replaced in its place, and a new one goes last
 pub greeted_entry : (wid : List ℕ) (moment : ℕ) (heard : Heard) (entries : List Entry)
     → heard ≡ record { state = Running; seen = moment } → IsDistinct bytes_eq (keys_of entries)
-    → workers_of (insert_entry bytes_eq entries wid heard) ≡ greeted wid moment (workers_of entries)
+    → workers_of (insert_entry bytes_eq entries wid heard) ≡ introduced wid moment (workers_of entries)
 greeted_entry wid moment heard [] is apart = ap (λ (h : Heard). worker_of (wid, h) ∷ []) is
 greeted_entry wid moment heard (entry ∷ entries) new apart =
     step (bytes_eq wid entry.0) refl
     (greeted_entry wid moment heard entries new (IsDistinct-tail bytes_eq entry.0 (keys_of entries) apart))
   where
     step : (b : Bool) → bytes_eq wid entry.0 ≡ b
-        → workers_of (insert_entry bytes_eq entries wid heard) ≡ greeted wid moment (workers_of entries)
-        → workers_of (insert_entry bytes_eq (entry ∷ entries) wid heard) ≡ greeted wid moment (workers_of (entry ∷ entries))
+        → workers_of (insert_entry bytes_eq entries wid heard) ≡ introduced wid moment (workers_of entries)
+        → workers_of (insert_entry bytes_eq (entry ∷ entries) wid heard) ≡ introduced wid moment (workers_of (entry ∷ entries))
     step true is rest =
         let it : worker_of (entry.0, heard) ≡ newcomer wid moment =
         ap (λ (name : List ℕ). worker_of (name, heard)) (sym ((bytes_decides wid entry.0).0 is))

@@ -9,7 +9,7 @@ use Rattle.std.proofs.lemmas.Map.Made.{IsDistinct-keys_filter}
 use Rattle.fk_model.specs.declared.work_state.WorkState.{WorkState}
 use Rattle.fk_model.specs.State.{Worker}
 use Rattle.fk_model.specs.Requests.{is_held_back, is_running}
-use Rattle.fk_model.specs.Workers.{fresh, holds_back, is_kept, state_of, AreApart}
+use Rattle.fk_model.specs.Workers.{fresh, holds_back, is_fresh, state_of, AreApart}
 use Rattle.fk_workers.specs.Entries.{Entry, workers_of}
 use Rattle.fk_workers.proofs.Silence.{fresh_workers}
 use Rattle.fk_workers.proofs.Telling.{apart_workers}
@@ -53,7 +53,7 @@ pub held_told : (wid : List ℕ) (moment : ℕ) (entries : List Entry) (told : O
     → told ≡ state_of wid (fresh moment (workers_of entries))
     → is_held_back (fresh moment (workers_of entries)) wid ≡ holds_back told
 held_told wid moment entries told apart is =
-    let kept = filter (λ (entry : Entry). is_kept moment entry.1.seen) entries in
-    let still = apart_workers kept (IsDistinct-keys_filter bytes_eq (λ entry. is_kept moment entry.1.seen) entries apart) in
+    let kept = filter (λ (entry : Entry). is_fresh moment entry.1.seen) entries in
+    let still = apart_workers kept (IsDistinct-keys_filter bytes_eq (λ entry. is_fresh moment entry.1.seen) entries apart) in
     held_back wid (fresh moment (workers_of entries)) (subst AreApart (sym (fresh_workers moment entries)) still)
     ∙ ap holds_back (sym is)

@@ -7,7 +7,7 @@ use Rattle.indexmap.specs.IndexMap.{insert_entry}
 use Rattle.std.specs.Prelude.{bytes_eq}
 use Rattle.fk_model.specs.State.{Worker}
 use Rattle.fk_workers.specs.declared.heard.Heard.{Heard}
-use Rattle.fk_model.specs.Workers.{forget_after, fresh, is_kept}
+use Rattle.fk_model.specs.Workers.{forget_after, fresh, is_fresh}
 use Rattle.fk_workers.specs.Entries.{Entry, worker_of, workers_of, AreSince}
 
 -- what holds of either choice holds of the one that is taken
@@ -82,18 +82,18 @@ choice false entry workers entries same = same
 
 -- the workers that are kept are those of the entries that are
 pub fresh_workers : (moment : ℕ) (entries : List Entry)
-    → fresh moment (workers_of entries) ≡ workers_of (filter (λ entry. is_kept moment entry.1.seen) entries)
+    → fresh moment (workers_of entries) ≡ workers_of (filter (λ entry. is_fresh moment entry.1.seen) entries)
 fresh_workers moment [] = refl
 fresh_workers moment (entry ∷ entries) =
-    choice (is_kept moment entry.1.seen) entry (fresh moment (workers_of entries))
-    (filter (λ one. is_kept moment one.1.seen) entries) (fresh_workers moment entries)
+    choice (is_fresh moment entry.1.seen) entry (fresh moment (workers_of entries))
+    (filter (λ one. is_fresh moment one.1.seen) entries) (fresh_workers moment entries)
 
 -- where the one that was silent longest is kept, all are
-pub all_fresh : (moment since : ℕ) (entries : List Entry) → is_kept moment since ≡ true → AreSince since entries
+pub all_fresh : (moment since : ℕ) (entries : List Entry) → is_fresh moment since ≡ true → AreSince since entries
     → fresh moment (workers_of entries) ≡ workers_of entries
 all_fresh moment since [] kept all = refl
 all_fresh moment since (entry ∷ entries) kept all =
     let below = ltb-true moment (since + forget_after) kept in
-    let here : is_kept moment entry.1.seen ≡ true = lt-ltb moment (entry.1.seen + forget_after) (omega (arith, below, all.0)) in
+    let here : is_fresh moment entry.1.seen ≡ true = lt-ltb moment (entry.1.seen + forget_after) (omega (arith, below, all.0)) in
     let rest = all_fresh moment since entries kept all.1 in
     rw here (ap (λ (l : List Worker). worker_of entry ∷ l) rest)

@@ -7,7 +7,7 @@ use Rattle.std.specs.Cmp.Lexicographic.{nat_list_eq_equiv}
 use Rattle.std.proofs.lemmas.Map.Entries.{option_filter, lookup-filter-values}
 use Rattle.fk_model.specs.declared.work_state.WorkState.{WorkState}
 use Rattle.fk_workers.specs.declared.heard.Heard.{Heard}
-use Rattle.fk_model.specs.Workers.{fresh, is_kept, state_of, AreApart}
+use Rattle.fk_model.specs.Workers.{fresh, is_fresh, state_of, AreApart}
 use Rattle.fk_workers.specs.Entries.{Entry, workers_of}
 use Rattle.fk_workers.proofs.Silence.{fresh_workers}
 use Rattle.fk_workers.proofs.Changing.{state_found}
@@ -25,15 +25,15 @@ apart_workers entries apart = subst (IsDistinct bytes_eq) (wids_are entries) apa
 
 -- the state of a worker that isn't to be forgotten
 abbrev told : ℕ → Option Heard → Option WorkState
-told moment found = option_map (λ heard. heard.state) (option_filter (λ heard. is_kept moment heard.seen) found)
+told moment found = option_map (λ heard. heard.state) (option_filter (λ heard. is_fresh moment heard.seen) found)
 
 told_is : (wid : List ℕ) (moment : ℕ) (entries : List Entry) → IsDistinct bytes_eq (keys_of entries)
     → state_of wid (fresh moment (workers_of entries)) ≡ told moment (lookup (bytes_eq wid) entries)
 told_is wid moment entries apart =
-    let kept = filter (λ (entry : Entry). is_kept moment entry.1.seen) entries in
+    let kept = filter (λ (entry : Entry). is_fresh moment entry.1.seen) entries in
     ap (state_of wid) (fresh_workers moment entries) ∙ state_found wid kept
     ∙ ap (option_map (λ (heard : Heard). heard.state))
-    (lookup-filter-values nat_list_eq_equiv (λ heard. is_kept moment heard.seen) wid entries apart)
+    (lookup-filter-values nat_list_eq_equiv (λ heard. is_fresh moment heard.seen) wid entries apart)
 
 -- where a test decides, one of the two comes
 choice : (b : Bool) (heard : Heard)
@@ -43,9 +43,9 @@ choice false heard = refl
 
 pub told_some : (wid : List ℕ) (moment : ℕ) (heard : Heard) (entries : List Entry) → IsDistinct bytes_eq (keys_of entries)
     → lookup (bytes_eq wid) entries ≡ Some heard
-    → state_of wid (fresh moment (workers_of entries)) ≡ (if is_kept moment heard.seen then Some heard.state else None)
+    → state_of wid (fresh moment (workers_of entries)) ≡ (if is_fresh moment heard.seen then Some heard.state else None)
 told_some wid moment heard entries apart found =
-    told_is wid moment entries apart ∙ ap (told moment) found ∙ choice (is_kept moment heard.seen) heard
+    told_is wid moment entries apart ∙ ap (told moment) found ∙ choice (is_fresh moment heard.seen) heard
 
 pub told_none : (wid : List ℕ) (moment : ℕ) (entries : List Entry) → IsDistinct bytes_eq (keys_of entries)
     → lookup (bytes_eq wid) entries ≡ None → state_of wid (fresh moment (workers_of entries)) ≡ None

@@ -17,9 +17,9 @@ impl Heard {
     /// The state, unless the worker is to be forgotten at this moment.
     pub(crate) fn state_at(&self, moment: u64) -> Option<WorkState>
         ensures { result
-            ≡ (if spec.is_kept moment self.now.seen then Some self.now.state else None) }
+            ≡ (if spec.is_fresh moment self.now.seen then Some self.now.state else None) }
     {
-        if is_kept(moment, self.seen) {
+        if is_fresh(moment, self.seen) {
             Some(self.state)
         } else {
             None
@@ -28,8 +28,8 @@ impl Heard {
 }
 
 /// Whether a worker that was seen then isn't to be forgotten at a moment. No sum is beyond its type.
-pub(crate) fn is_kept(moment: u64, seen: u64) -> bool
-    ensures { result ≡ spec.is_kept moment seen }
+pub(crate) fn is_fresh(moment: u64, seen: u64) -> bool
+    ensures { result ≡ spec.is_fresh moment seen }
 {
     moment.saturating_sub(seen) < FORGET_AFTER
 }

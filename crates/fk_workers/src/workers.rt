@@ -1,10 +1,10 @@
 ghost use Rattle.std.specs.Prelude.{◌≡◌, [], false, Contains, IsOk, OnErr, OnOk};
 ghost use Rattle.fk_model.specs.Requests.{is_held_back};
-ghost use Rattle.fk_model.specs.Workers.{after_turn, beaten, fresh, greeted, holds_back, is_kept as keeps, signalled, state_of, AreApart};
+ghost use Rattle.fk_model.specs.Workers.{after_turn, seen_again, fresh, introduced, holds_back, is_fresh as keeps, signalled, state_of, AreApart};
 ghost use Rattle.fk_workers.specs.Entries.{AreSince};
 ghost use Rattle.fk_workers.specs.Roll.{is_hello, IsReady};
 
-use crate::heard::{FORGET_AFTER, Heard, greater, is_kept};
+use crate::heard::{FORGET_AFTER, Heard, greater, is_fresh};
 use crate::wid::Wid;
 use fk_json::Text;
 use fk_model::{Ask, WorkState};
@@ -106,13 +106,13 @@ impl Workers {
         ensures wids { self.new.wids ≡ self.old.wids }
         ensures apart { AreApart self.new.workers }
     {
-        if is_kept(moment, self.oldest) {
+        if is_fresh(moment, self.oldest) {
             return;
         }
         self.held.retain(
             |_wid: &Wid, heard: &mut Heard| -> bool
                 ensures { (result ≡ keeps moment heard.old.seen) × (heard.new ≡ heard.old) }
-            { is_kept(moment, heard.seen) },
+            { is_fresh(moment, heard.seen) },
         );
         self.oldest = oldest_of(&self.held);
     }
@@ -121,7 +121,7 @@ impl Workers {
     #[tactic(auto, using(crate::proofs::Telling::apart_workers))]
     fn greet(&mut self, wid: &Text, moment: u64)
         requires { Contains self.old.wids wid.now }
-        ensures workers { self.new.workers ≡ greeted wid.now moment self.old.workers }
+        ensures workers { self.new.workers ≡ introduced wid.now moment self.old.workers }
         ensures apart { AreApart self.new.workers }
     {
         let Some(ready) = self.ready.take() else {
@@ -140,7 +140,7 @@ impl Workers {
     /// A worker is seen.
     #[tactic(auto, using(crate::proofs::Telling::apart_workers))]
     fn beat(&mut self, wid: &Text, moment: u64)
-        ensures workers { self.new.workers ≡ beaten wid.now moment self.old.workers }
+        ensures workers { self.new.workers ≡ seen_again wid.now moment self.old.workers }
         ensures apart { AreApart self.new.workers }
     {
         let Some(heard) = self.held.get_mut(wid.bytes()) else {
