@@ -1,26 +1,21 @@
 -- Who gets no new job, by the state that is told.
-use Rattle.std.proofs.Common.{◌≡◌, ◌∙◌, refl, ap, sym, subst, ℕ, Bool, true, false, List, [], ◌∷◌, filter, Option}
-use Rattle.std.specs.Prelude.{◌||◌, not, bytes_eq, map}
-use Rattle.std.specs.List.{AllByRecursion, IsDistinct}
+use Rattle.std.proofs.Common.{◌≡◌, ◌∙◌, refl, ap, sym, ℕ, Bool, true, false, List, [], ◌∷◌, Option}
+use Rattle.std.specs.Prelude.{◌||◌, not, bytes_eq}
+use Rattle.std.specs.List.{IsDistinct}
 use Rattle.std.specs.Cmp.Lexicographic.{bytes_decides, nat_list_eq_equiv}
 use Rattle.std.proofs.lemmas.Map.Keys.{IsDistinct-head, IsDistinct-tail}
 use Rattle.std.specs.Map.{keys_of}
-use Rattle.std.proofs.lemmas.Map.Made.{IsDistinct-keys_filter}
 use Rattle.fk_model.specs.declared.work_state.WorkState.{WorkState}
 use Rattle.fk_model.specs.State.{Worker}
 use Rattle.fk_model.specs.Requests.{is_held_back, is_running}
-use Rattle.fk_model.specs.Workers.{fresh, holds_back, is_fresh, state_of, AreApart}
+use Rattle.fk_model.specs.Workers.{fresh, holds_back, state_of, AreApart}
+use Rattle.fk_model.proofs.Listed.{fresh_apart, wids_of, IsNoneOf}
 use Rattle.fk_workers.specs.Entries.{Entry, workers_of}
-use Rattle.fk_workers.proofs.Silence.{fresh_workers}
 use Rattle.fk_workers.proofs.Telling.{apart_workers}
-
--- the wids of workers
-abbrev wids_of : List Worker → List (List ℕ)
-wids_of workers = map (λ worker. worker.wid) workers
 
 -- a wid that is equal to one from which all others differ holds nobody of these back
 nobody : (wid name : List ℕ) (workers : List Worker) → wid ≡ name
-    → AllByRecursion (λ other. bytes_eq name other ≡ false) (wids_of workers) → is_held_back workers wid ≡ false
+    → IsNoneOf name (wids_of workers) → is_held_back workers wid ≡ false
 nobody wid name [] same differ = refl
 nobody wid name (worker ∷ workers) same differ =
     let other : bytes_eq worker.wid wid ≡ false =
@@ -53,7 +48,6 @@ pub held_told : (wid : List ℕ) (moment : ℕ) (entries : List Entry) (told : O
     → told ≡ state_of wid (fresh moment (workers_of entries))
     → is_held_back (fresh moment (workers_of entries)) wid ≡ holds_back told
 held_told wid moment entries told apart is =
-    let kept = filter (λ (entry : Entry). is_fresh moment entry.1.seen) entries in
-    let still = apart_workers kept (IsDistinct-keys_filter bytes_eq (λ entry. is_fresh moment entry.1.seen) entries apart) in
-    held_back wid (fresh moment (workers_of entries)) (subst AreApart (sym (fresh_workers moment entries)) still)
+    held_back wid (fresh moment (workers_of entries))
+    (fresh_apart moment (workers_of entries) (apart_workers entries apart))
     ∙ ap holds_back (sym is)

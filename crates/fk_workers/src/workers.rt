@@ -174,33 +174,3 @@ fn oldest_of(held: &IndexMap<Wid, Heard>) -> u64
     }
     oldest
 }
-
-#[cfg(test)]
-mod tests {
-    use super::*;
-    use std::test::Fail;
-
-    // No program asks a worker for its state yet.
-    #[test]
-    fn a_worker_is_greeted_seen_quieted_and_forgotten(rt: HostRuntime) -> Result<(), Fail> {
-        let wid = || Text::fixed(rt.alloc(), b"w1");
-        let mut workers = Workers::new(rt.alloc());
-        let hello = Ask::Hello { wid: wid() };
-        workers.ready(&hello)?;
-        workers.turn(&hello, 1_000);
-        let signal = Ask::Signal {
-            wid: wid(),
-            state: WorkState::Quiet,
-        };
-        workers.ready(&signal)?;
-        workers.turn(&signal, 2_000);
-        assert!(rt; workers.state(&wid(), 60_999) == Some(WorkState::Quiet));
-        assert!(rt; workers.state(&wid(), 61_000) == None);
-        workers.turn(&Ask::Beat { wid: wid() }, 3_000);
-        workers.turn(&Ask::Tick, 62_999);
-        assert!(rt; workers.state(&wid(), 62_999) == Some(WorkState::Quiet));
-        workers.turn(&Ask::Tick, 63_000);
-        assert!(rt; workers.state(&wid(), 62_999) == None);
-        Ok(())
-    }
-}
