@@ -62,12 +62,12 @@ middle_within : (s : State) (ask : Ask) (moment word : ℕ) → ¬ IsOverLimit s
 middle_within s ask moment word within =
     let grown = next_grows (up_to_date s moment word) ask moment word in omega (arith, within, grown)
 
-middle_well : (s : State) (ask : Ask) (moment word : ℕ) → IsBetweenTurns s → moment < greatest
+middle_well : (s : State) (ask : Ask) (moment word : ℕ) → IsWellKept s.kept → moment < greatest
     → ¬ IsOverLimit s ask moment word → IsWellKept (brought_up s.kept moment word)
-middle_well s ask moment word ready told within =
+middle_well s ask moment word well told within =
     closed_well s.kept (moves_up s.kept moment word) (brought_up s.kept moment word)
-    (up_are_rows s.kept moment word ready.kept)
-    (up_has_numbers s.kept moment word ready.kept told (middle_within s ask moment word within)) ready.kept
+    (up_are_rows s.kept moment word well)
+    (up_has_numbers s.kept moment word well told (middle_within s ask moment word within)) well
 
 -- ---- its moves, without the numbers
 
@@ -76,64 +76,64 @@ abbrev parts_of : State → Ask → ℕ → ℕ → List Move
 parts_of s ask moment word =
     moves_up s.kept moment word ++ moves_of s.kept (up_to_date s moment word) ask moment word
 
-said_rows : (s : State) (ask : Ask) (moment word : ℕ) → IsBetweenTurns s
+said_rows : (s : State) (ask : Ask) (moment word : ℕ) → IsWellKept s.kept
     → AreRowsOf (brought_up s.kept moment word) (moves_of s.kept (up_to_date s moment word) ask moment word)
     (turn s ask moment word).state.kept
-said_rows s ask moment word ready =
-    rows_of s.kept (up_to_date s moment word) ask moment word (up_orderly s.kept moment word ready.kept)
+said_rows s ask moment word well =
+    rows_of s.kept (up_to_date s moment word) ask moment word (up_orderly s.kept moment word well)
 
-turn_rows : (s : State) (ask : Ask) (moment word : ℕ) → IsBetweenTurns s
+turn_rows : (s : State) (ask : Ask) (moment word : ℕ) → IsWellKept s.kept
     → AreRowsOf s.kept (parts_of s ask moment word) (turn s ask moment word).state.kept
-turn_rows s ask moment word ready =
+turn_rows s ask moment word well =
     rows_both s.kept (brought_up s.kept moment word) (turn s ask moment word).state.kept
     (moves_up s.kept moment word) (moves_of s.kept (up_to_date s moment word) ask moment word)
-    (up_are_rows s.kept moment word ready.kept) (said_rows s ask moment word ready)
-    (turn_changes s ask moment word ready)
+    (up_are_rows s.kept moment word well) (said_rows s ask moment word well)
+    (turn_changes s ask moment word well)
 
-turn_numbers : (s : State) (ask : Ask) (moment word : ℕ) → IsBetweenTurns s → IsInRange ask
+turn_numbers : (s : State) (ask : Ask) (moment word : ℕ) → IsWellKept s.kept → IsInRange ask
     → moment < greatest → ¬ IsOverLimit s ask moment word
     → HasNumbers s.kept
     (moves_up s.kept moment word ++ moves_of s.kept (up_to_date s moment word) ask moment word)
     (turn s ask moment word).state.kept
-turn_numbers s ask moment word ready range told within =
+turn_numbers s ask moment word well range told within =
     let middle = up_to_date s moment word in
-    let well = middle_well s ask moment word ready told within in
+    let then = middle_well s ask moment word well told within in
     numbers_both s.kept middle.kept (turn s ask moment word).state.kept (moves_up s.kept moment word)
-    (moves_of s.kept middle ask moment word) (up_are_rows s.kept moment word ready.kept)
-    (said_rows s ask moment word ready)
-    (up_has_numbers s.kept moment word ready.kept told (middle_within s ask moment word within))
-    (numbers_of s.kept middle ask moment word well range told (omega (arith, within)))
+    (moves_of s.kept middle ask moment word) (up_are_rows s.kept moment word well)
+    (said_rows s ask moment word well)
+    (up_has_numbers s.kept moment word well told (middle_within s ask moment word within))
+    (numbers_of s.kept middle ask moment word then range told (omega (arith, within)))
 
 -- ---- the turn
 
 -- the kept state behind a turn is the one that its moves make
-pub turn_comes : (s : State) (ask : Ask) (moment word : ℕ) → IsBetweenTurns s
+pub turn_comes : (s : State) (ask : Ask) (moment word : ℕ) → IsWellKept s.kept
     → (turn s ask moment word).state.kept ≡ after_moves s.kept (moves_of_turn s ask moment word)
-turn_comes s ask moment word ready =
+turn_comes s ask moment word well =
     closed_come s.kept (parts_of s ask moment word) (turn s ask moment word).state.kept
-    (turn_rows s ask moment word ready)
+    (turn_rows s ask moment word well)
 
 -- it has no move exactly where the kept state stays
-pub turn_stays : (s : State) (ask : Ask) (moment word : ℕ) → IsBetweenTurns s
+pub turn_stays : (s : State) (ask : Ask) (moment word : ℕ) → IsWellKept s.kept
     → (moves_of_turn s ask moment word ≡ []) ↔ ((turn s ask moment word).state.kept ≡ s.kept)
-turn_stays s ask moment word ready =
+turn_stays s ask moment word well =
     closed_stays s.kept (parts_of s ask moment word) (turn s ask moment word).state.kept
-    (turn_rows s ask moment word ready)
+    (turn_rows s ask moment word well)
 
 -- its last move, and no other, tells the numbers
-pub turn_ends : (s : State) (ask : Ask) (moment word : ℕ) → IsBetweenTurns s
+pub turn_ends : (s : State) (ask : Ask) (moment word : ℕ) → IsWellKept s.kept
     → moves_of_turn s ask moment word ≢ [] → EndsWithTotals (moves_of_turn s ask moment word)
-turn_ends s ask moment word ready some =
+turn_ends s ask moment word well some =
     closed_ends s.kept (parts_of s ask moment word) (turn s ask moment word).state.kept
-    (turn_rows s ask moment word ready) some
+    (turn_rows s ask moment word well) some
 
 -- its moves fit, and lead to its kept state
-pub turn_leads : (s : State) (ask : Ask) (moment word : ℕ) → IsBetweenTurns s → IsInRange ask
+pub turn_leads : (s : State) (ask : Ask) (moment word : ℕ) → IsWellKept s.kept → IsInRange ask
     → moment < greatest → ¬ IsOverLimit s ask moment word
     → Lead s.kept (moves_of_turn s ask moment word) (turn s ask moment word).state.kept
-turn_leads s ask moment word ready range told within =
+turn_leads s ask moment word well range told within =
     closed_leads s.kept (parts_of s ask moment word) (turn s ask moment word).state.kept
-    (turn_rows s ask moment word ready) (turn_numbers s ask moment word ready range told within)
+    (turn_rows s ask moment word well) (turn_numbers s ask moment word well range told within)
 
 -- ---- the workers
 
@@ -169,7 +169,7 @@ pub turn_keeps : (s : State) (ask : Ask) (moment word : ℕ) → IsBetweenTurns 
     → IsBetweenTurns (turn s ask moment word).state
 turn_keeps s ask moment word ready range told within = record {
   kept = closed_well s.kept (parts_of s ask moment word) (turn s ask moment word).state.kept
-      (turn_rows s ask moment word ready) (turn_numbers s ask moment word ready range told within)
+      (turn_rows s ask moment word ready.kept) (turn_numbers s ask moment word ready.kept range told within)
       ready.kept;
   names = subst AreApart (sym (turn_workers s ask moment word)) (turn_apart ask moment s.workers ready.names);
 }

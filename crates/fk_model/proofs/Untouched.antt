@@ -13,7 +13,7 @@ use Rattle.fk_model.specs.declared.ask.Ask.TheVariants.{Push, PushBatch, Fetch, 
 use Rattle.fk_model.specs.Rows.{ticket_of, row_of, IsByTicket, row_at}
 use Rattle.fk_model.specs.State.{KeptState, State}
 use Rattle.fk_model.specs.Orders.{is_working, leased, rank_of}
-use Rattle.fk_model.specs.Between.{IsWellKept, IsBetweenTurns}
+use Rattle.fk_model.specs.Between.{IsWellKept}
 use Rattle.fk_model.specs.Due.{due}
 use Rattle.fk_model.specs.Failing.{Reason, failed_row, failed}
 use Rattle.fk_model.specs.Bringing.{brought_up, moves_up}
@@ -176,16 +176,16 @@ none_if s ask moment word (one ∷ all) well e same =
     (omega (arith, lower, next))))
 
 -- a turn that leaves the kept state as it is has no move
-pub turn_changes : (s : State) (ask : Ask) (moment word : ℕ) → IsBetweenTurns s
+pub turn_changes : (s : State) (ask : Ask) (moment word : ℕ) → IsWellKept s.kept
     → (turn s ask moment word).state.kept ≡ s.kept
     → moves_up s.kept moment word ++ moves_of s.kept (up_to_date s moment word) ask moment word ≡ []
-turn_changes s ask moment word ready same =
+turn_changes s ask moment word kept_well same =
     let middle = up_to_date s moment word in
-    let well = up.up_orderly s.kept moment word ready.kept in
+    let well = up.up_orderly s.kept moment word kept_well in
     let none : moves_up s.kept moment word ≡ [] =
     sym (told_due s.kept moment word)
-    ∙ ap (map told_by) (none_if s ask moment word (outcomes_due s.kept moment word) ready.kept refl same) in
-    let stays : middle.kept ≡ s.kept = (up.up_are_rows s.kept moment word ready.kept).none none in
+    ∙ ap (map told_by) (none_if s ask moment word (outcomes_due s.kept moment word) kept_well refl same) in
+    let stays : middle.kept ≡ s.kept = (up.up_are_rows s.kept moment word kept_well).none none in
     let back : moves_of s.kept middle ask moment word ≡ [] =
     (rows_of s.kept middle ask moment word well).stays (same ∙ sym stays) in
     rw (none, back) refl
