@@ -7,10 +7,3 @@ pub mod Wanted
 pub mod Ends
 pub mod Breaks
 pub mod Words
-pub mod Refusals
-pub mod Keys
-pub mod ReadValues
-pub mod Elements
-pub mod RefusalsPut
-pub mod Batches
-pub mod Answerable

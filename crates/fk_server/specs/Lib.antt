@@ -1,6 +1,4 @@
 pub mod Words
-pub mod Verbs
-pub mod Batches
 pub mod Turning
 pub mod Stored
 pub mod Session

@@ -2,17 +2,15 @@
 use Rattle.std.specs.Prelude.{◌≡◌, ℕ, ◌<◌, ◌-◌, List, [], ◌∷◌, length, map, All, Option, slice_get, IsSomeAnd}
 use Rattle.fk_io.specs.Telling.{Gave}
 use Rattle.fk_frame.specs.declared.reply.Reply.{Reply}
-use Rattle.fk_frame.specs.Replies.{IsWellFormed, reply_bytes}
+use Rattle.fk_frame.specs.Replies.{reply_bytes}
 use Rattle.fk_model.specs.declared.ask.Ask.{Ask}
 use Rattle.fk_model.specs.declared.answer.Answer.{Answer}
 use Rattle.fk_model.specs.declared.told.Compaction.TheVariants.{NotDue}
 use Rattle.fk_model.specs.declared.entry.Entry.{Entry}
 use Rattle.fk_model.specs.declared.item.Item.{Item}
-use Rattle.fk_model.specs.declared.item.Item.TheVariants.{Own, Asks}
 use Rattle.fk_model.specs.declared.move_.Move.{Move}
 use Rattle.fk_model.specs.declared.move_.Move.TheVariants.{Totals}
 use Rattle.fk_model.specs.Limits.{greatest_next}
-use Rattle.fk_model.specs.Range.{HasJsonTexts, IsInRange}
 use Rattle.fk_model.specs.State.{State}
 use Rattle.fk_model.specs.Out.{asks_of, out}
 use Rattle.fk_model.specs.History.{state_after, IsLegal}
@@ -67,17 +65,6 @@ pub record MakesTurn (old new : Server) (ask : Ask) (answer : Answer) : Type 0 w
   pub moment : ℕ
   pub word : ℕ
   pub turned : Turned old new (entry_of ask moment word answer ∷ [])
-
--- a reply of the script's own that is a status or an error is one line, and what serde_json decoded or
--- wrote for an ask is a text
-abbrev pub IsInForm : Item → Type 0
-IsInForm (Own reply) = IsWellFormed reply
-IsInForm (Asks ask) = HasJsonTexts ask
-
--- an item can be answered: its reply is in form, or a turn may be made of its ask
-abbrev pub IsAnswerable : Item → Type 0
-IsAnswerable (Own reply) = IsWellFormed reply
-IsAnswerable (Asks ask) = IsInRange ask
 
 -- the reply to an item was found: its own, or the answer of the turn that was made
 pub record Replies (old new : Server) (item : Item) (reply : Reply) : Type 0 where

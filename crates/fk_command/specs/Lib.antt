@@ -1,0 +1,4 @@
+pub mod Commands
+pub mod Verbs
+pub mod Refusals
+pub mod Batches

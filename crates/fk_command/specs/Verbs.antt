@@ -1,0 +1,17 @@
+-- What a line asks for, as the code tells it.
+use Rattle.fk_model.specs.Script.{Command, end, hello, push, batch, fetch, ack, fail, beat, signal, unknown}
+use Rattle.fk_command.specs.declared.verb.Verb.{Verb}
+use Rattle.fk_command.specs.declared.verb.Verb.TheVariants.{End, Hello, Push, Batch, Fetch, Ack, Fail, Beat, Signal, Unknown}
+
+-- the command of a verb
+abbrev pub command : Verb → Command
+command End = end
+command Hello = hello
+command Push = push
+command Batch = batch
+command Fetch = fetch
+command Ack = ack
+command Fail = fail
+command Beat = beat
+command Signal = signal
+command Unknown = unknown

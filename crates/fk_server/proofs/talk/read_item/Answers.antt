@@ -1,7 +1,0 @@
-use Rattle.fk_server.proofs.Answerable.{answerable}
-use Rattle.fk_server.proofs.talk.read_item.Goals as goal
-
-pub returns-clause-range : goal.returns-clause-range
-returns-clause-range c =
-    answerable c.args.phase c.args.line.now c.read_given.result c.are_bytes.ensures c.requires
-    c.read_given.ensures.items c.read_given.ensures.form
