@@ -17,7 +17,7 @@ use crate::signal::signal;
 use crate::verb::{Verb, arguments_of, command_in};
 use fk_frame::Reply;
 use fk_json::Text;
-use fk_model::{Ask, Item, laws};
+use fk_model::{Ask, Item};
 use std::alloc::{AllocError, Global};
 
 /// What a line asks for, behind an accepted HELLO.
@@ -42,9 +42,8 @@ pub fn read_command(alloc: Global, line: &[u8], wid: &Text) -> Result<Command, A
     ensures range { IfOk result IsAnswerable }
 {
     are_bytes(line);
-    laws::an_ask_of_a_line_is_in_range();
     let item = read_item(alloc, command_in(line), arguments_of(line), wid)?;
-    Ok(command_of(item))
+    Ok(command_for(item))
 }
 
 /// The bytes of a line are below 256.
@@ -55,7 +54,7 @@ fn are_bytes(line: &[u8])
 }
 
 /// What an item stands for: a turn is asked for, or the line is refused. No item is the end of the talk.
-fn command_of(item: Option<Item>) -> Command
+fn command_for(item: Option<Item>) -> Command
     ensures { items_of result ≡ option_to_list item }
 {
     match item {

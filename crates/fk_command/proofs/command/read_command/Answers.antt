@@ -1,7 +1,8 @@
 use Rattle.fk_command.proofs.Answerable.{answerable}
-use Rattle.fk_command.proofs.talk.read_item.Goals as goal
+use Rattle.fk_command.proofs.command.read_command.Goals as goal
 
 pub returns-clause-range : goal.returns-clause-range
 returns-clause-range c =
-    answerable c.args.phase c.args.line.now c.read_given.result c.are_bytes.ensures c.requires
-    c.read_given.ensures.items c.read_given.ensures.form
+    answerable c.args.wid.now c.args.line.now c.in_ok-item.item c.command_for.result c.are_bytes.ensures
+    c.requires.line c.command_for.ensures (rw (c.command_in.ensures, c.arguments_of.ensures) at c.in_ok-item.ensures.given)
+    c.in_ok-item.ensures.form
