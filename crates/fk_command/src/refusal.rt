@@ -16,7 +16,7 @@ use std::alloc::{AllocError, Global};
 
 /// Why a line is refused, but for the fault of a job: what isn't read, what isn't there, and what isn't
 /// asked for at all.
-#[derive(Clone, Copy, PartialEq, Eq)]
+#[derive(Clone, Copy)]
 pub(crate) enum Refusal {
     BadJson,
     TooDeep,

@@ -5,7 +5,7 @@ ghost use Rattle.fk_model.specs.Commands.{verb, arguments, is_space};
 ghost use Rattle.fk_model.specs.Script.{command_of};
 ghost use Rattle.fk_command.specs.Verbs.{command};
 
-/// What a line asks for, by its verb.
+/// A verb that is known, or that it is none of them.
 #[derive(Clone, Copy, PartialEq, Eq)]
 pub enum Verb {
     End,
@@ -20,7 +20,7 @@ pub enum Verb {
     Unknown,
 }
 
-/// What a line asks for.
+/// The verb of a line.
 pub fn command_in(line: &[u8]) -> Verb
     ensures { command result ≡ command_of line.now }
 {
