@@ -89,6 +89,7 @@ fn read_element(alloc: Global, text: &[u8], batch: &mut ReadBatch) -> Result<(),
 }
 
 /// Puts a fault under its element's key, in the place of one that was there.
+#[tactic(auto, using(crate::proofs::RefusalsPut::inserts))]
 fn bar(
     alloc: Global,
     text: &[u8],
