@@ -1,2 +1,4 @@
 pub mod Advance
+pub mod Hearing
 pub mod Talks
+pub mod Steps

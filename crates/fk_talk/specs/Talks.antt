@@ -1,12 +1,13 @@
 -- A talk, as contracts see it, and what its calls do.
-use Rattle.std.specs.Prelude.{◌≡◌, ◌≢◌, ◌⊎◌, ℕ, List, [], ◌∷◌, ◌++◌, length, Bool, true, false}
+use Rattle.std.specs.Prelude.{◌≡◌, ◌≢◌, ◌≤◌, ◌⊎◌, ◌+◌, ℕ, drop, List, [], ◌∷◌, ◌++◌, length, Bool, true, false}
 use Rattle.fk_frame.specs.Lines.{lines_of}
 use Rattle.fk_frame.specs.Reading.{HasLine, HasLongLine}
 use Rattle.fk_model.specs.declared.answer.Answer.{Answer}
-use Rattle.fk_model.specs.declared.ask.Ask.{Ask as AnAsk}
 use Rattle.fk_model.specs.declared.gate.Gate.{Gate}
 use Rattle.fk_model.specs.declared.item.Item.{Item}
 use Rattle.fk_model.specs.declared.item.Item.TheVariants.{Asks}
+use Rattle.fk_model.specs.Answers.{answer_bytes}
+use Rattle.fk_model.specs.Handshake.{greeting}
 use Rattle.fk_model.specs.Range.{IsInRange}
 use Rattle.fk_model.specs.Out.{asks_of, out, output}
 use Rattle.fk_talk.specs.declared.standing.Standing.{Standing}
@@ -14,6 +15,7 @@ use Rattle.fk_talk.specs.declared.standing.Standing.TheVariants.{Nobody, Over}
 use Rattle.fk_talk.specs.declared.turn.Turn.{Turn}
 use Rattle.fk_talk.specs.declared.turn.Turn.TheVariants as turn
 use Rattle.fk_talk.specs.Advance.{Advances}
+use Rattle.fk_talk.specs.Hearing.{HasTextAsWid}
 
 -- A talk: what opens it, how far it has come, the bytes that wait for the end of their line, the bytes
 -- that are to be sent; an ask was given that has no answer yet; and memory ran out.
@@ -24,6 +26,38 @@ pub record Talking : Type 0 where
   pub out : List ℕ
   pub asked : Bool
   pub starved : Bool
+
+-- what holds of each talk: the hash is taken at least once, and who speaks has a text as its name
+pub record IsFit (gate : Gate) (standing : Standing) : Type 0 where
+  pub rounds : 1 ≤ gate.rounds
+  pub wid : HasTextAsWid standing
+
+-- a talk as it is opened: the greeting is to be sent
+abbrev pub opened : Gate → Talking
+opened gate = record {
+  gate = gate;
+  standing = Nobody;
+  waiting = [];
+  out = greeting gate;
+  asked = false;
+  starved = false;
+}
+
+-- it is fed a piece of its stream
+abbrev pub fed : Talking → List ℕ → Talking
+fed talk piece = record talk { waiting = talk.waiting ++ piece }
+
+-- its ask has this answer
+abbrev pub answered : Talking → Answer → Talking
+answered talk answer = record talk { out = talk.out ++ answer_bytes answer; asked = false }
+
+-- the first bytes were sent
+abbrev pub without_sent : ℕ → Talking → Talking
+without_sent count talk = record talk { out = drop count talk.out }
+
+-- memory ran out
+abbrev pub starving : Talking → Talking
+starving talk = record talk { asked = false; starved = true }
 
 -- these items are replies of the script's own
 abbrev pub AreOwn : List Item → Type 0
@@ -36,18 +70,18 @@ pub record Reads (old new : Talking) (items : List Item) : Type 0 where
   pub gate : new.gate ≡ old.gate
   pub starved : new.starved ≡ false
 
--- the talk read these lines, which it answered itself, and then what comes next
-pub record Comes (next : Turn) (old new : Talking) : Type 0 where
-  pub own : List Item
-  pub are_own : AreOwn own
-  pub is : IsNext next old new own
-
--- what comes next behind them: a line that asks for a turn, or the end of the talk, or no line is left
+-- what comes next behind lines that gave these items: a line that asks for a turn, or the end of the talk, or no line is left
 abbrev pub IsNext : Turn → Talking → Talking → List Item → Type 0
 IsNext (turn.Ask ask) old new own = Reads old new (own ++ Asks ask ∷ []) × (new.asked ≡ true)
 IsNext turn.Need old new own =
     Reads old new own × (new.asked ≡ false) × (new.standing ≢ Over) × (lines_of new.waiting ≡ [])
 IsNext turn.Over old new own = Reads old new own × (new.asked ≡ false) × (new.standing ≡ Over)
+
+-- the talk read these lines, which it answered itself, and then what comes next
+pub record Comes (next : Turn) (old new : Talking) : Type 0 where
+  pub own : List Item
+  pub are_own : AreOwn own
+  pub is : IsNext next old new own
 
 -- memory ran out behind lines that the talk answered itself, where it wasn't over and a line was next,
 -- whole or too long
@@ -72,10 +106,10 @@ HasAskInRange turn.Over = Unit {0}
 -- These bytes were fed to a talk of this gate. They gave these items so far, whose asks have these answers,
 -- but for one that has none yet. What is due to them is what was sent, and then what is to be sent.
 pub record HasTalked
-    (gate : Gate) (fed : List ℕ) (items : List Item) (answers : List Answer) (sent : List ℕ) (talk : Talking)
+    (gate : Gate) (fed_bytes : List ℕ) (items : List Item) (answers : List Answer) (sent : List ℕ) (talk : Talking)
     : Type 0 where
-  pub gate : talk.gate ≡ gate
-  pub advances : Advances gate Nobody fed items talk.standing talk.waiting
-  pub answered : talk.asked ≡ false → length answers ≡ length (asks_of items)
-  pub asked : talk.asked ≡ true → length answers + 1 ≡ length (asks_of items)
+  pub through : talk.gate ≡ gate
+  pub advances : Advances gate Nobody fed_bytes items talk.standing talk.waiting
+  pub settled : talk.asked ≡ false → length answers ≡ length (asks_of items)
+  pub one_left : talk.asked ≡ true → length answers + 1 ≡ length (asks_of items)
   pub put : sent ++ talk.out ≡ output gate items answers

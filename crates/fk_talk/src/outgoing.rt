@@ -1,0 +1,112 @@
+ghost use Rattle.std.specs.Prelude.{◌≡◌, ◌≤◌, ◌++◌, [], length, drop, IfOk, OnErr, OnOk};
+ghost use Rattle.fk_frame.specs.Replies.{reply_bytes, IsWellFormed};
+ghost use Rattle.fk_model.specs.Answers.{answer_bytes, reply_of};
+ghost use Rattle.fk_model.specs.Handshake as spec;
+
+use crate::password::salt_text;
+use fk_frame::{Reply, write_reply};
+use fk_model::{Answer, Gate};
+use std::alloc::{AllocError, Global};
+use std::marker::Model;
+
+/// The bytes whose memory is kept for what comes.
+const ROOM_KEPT: usize = 65_536;
+
+/// The bytes that are to be sent. Those in front of `from` were sent, and are cut off when they are at
+/// least as many as the others.
+#[derive(Drop)]
+pub(crate) struct Outgoing {
+    buffer: Vec<u8>,
+    from: usize,
+}
+
+impl Model for Outgoing {
+    ghost use Rattle.std.specs.Prelude.{ℕ, List, drop, length, ◌≤◌};
+
+    ghost Value = { List ℕ };
+
+    ghost view = { λ o. drop o.from o.buffer.items };
+
+    ghost invariant = { λ o. o.from ≤ length o.buffer.items };
+}
+
+impl Outgoing {
+    /// Nothing is to be sent. It takes no memory.
+    pub(crate) fn new(alloc: Global) -> Outgoing
+        ensures { result ≡ [] }
+    {
+        Outgoing {
+            buffer: Vec::new(alloc),
+            from: 0,
+        }
+    }
+
+    pub(crate) fn bytes(&self) -> &[u8]
+        ensures { result.now ≡ self.now }
+    {
+        &self.buffer[self.from..]
+    }
+
+    /// Adds bytes at the end, or leaves all as it is.
+    pub(crate) fn put(&mut self, bytes: &[u8]) -> Result<(), AllocError>
+        ensures ok { OnOk result (self.new ≡ self.old ++ bytes.now) }
+        ensures err { OnErr result (self.new ≡ self.old) }
+    {
+        self.buffer.extend_from_slice(bytes)
+    }
+
+    /// Adds a reply at the end, or leaves all as it is.
+    pub(crate) fn put_reply(&mut self, reply: &Reply) -> Result<(), AllocError>
+        requires { IsWellFormed reply.now }
+        ensures ok { OnOk result (self.new ≡ self.old ++ reply_bytes reply.now) }
+        ensures err { OnErr result (self.new ≡ self.old) }
+    {
+        let bytes = write_reply(*self.buffer.allocator(), reply)?;
+        self.put(bytes.bytes())
+    }
+
+    /// Adds the reply of an answer at the end, or leaves all as it is.
+    pub(crate) fn put_answer(&mut self, answer: &Answer) -> Result<(), AllocError>
+        requires { IsWellFormed (reply_of answer.now) }
+        ensures ok { OnOk result (self.new ≡ self.old ++ answer_bytes answer.now) }
+        ensures err { OnErr result (self.new ≡ self.old) }
+    {
+        match answer {
+            Answer::Said(reply) => self.put_reply(reply),
+            Answer::NoMemory => self.put(b"-ERR Out of memory\r\n"),
+            Answer::Full => self.put(b"-ERR Full\r\n"),
+            Answer::DiskFault => self.put(b"-ERR Disk fault\r\n"),
+        }
+    }
+
+    /// Gives up the first bytes, which were sent. It takes no memory. Each byte that is moved pays for
+    /// one that was sent, so the moves take no longer than what is sent.
+    pub(crate) fn sent(&mut self, count: usize)
+        requires { count ≤ length self.old }
+        ensures { self.new ≡ drop count self.old }
+    {
+        self.from += count;
+        if self.from >= self.buffer.len() - self.from {
+            self.buffer.drain(..self.from);
+            self.buffer.shrink_to(ROOM_KEPT);
+            self.from = 0;
+        }
+    }
+}
+
+/// The greeting, to be sent: it tells the rounds and the salt where a password is set.
+pub(crate) fn greeting(alloc: Global, gate: &Gate) -> Result<Outgoing, AllocError>
+    ensures { IfOk result (λ out. out ≡ spec.greeting gate.now) }
+{
+    let mut out = Outgoing::new(alloc);
+    match gate.password {
+        None => out.put(b"+HI {\"v\":2}\r\n")?,
+        Some(_) => {
+            let rounds = format!(in alloc; "+HI {{\"i\":{},\"s\":\"", gate.rounds)?;
+            out.put(rounds.as_bytes())?;
+            out.put(&salt_text(gate.salt))?;
+            out.put(b"\",\"v\":2}\r\n")?;
+        }
+    }
+    Ok(out)
+}
