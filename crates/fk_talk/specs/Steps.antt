@@ -1,5 +1,5 @@
 -- What the steps of a talk do, line by line.
-use Rattle.std.specs.Prelude.{◌≡◌, ◌≢◌, ◌⊎◌, ℕ, List, [], ◌++◌, Bool, false, Option, None, Some, option_to_list}
+use Rattle.std.specs.Prelude.{◌≡◌, ◌≢◌, ◌⊎◌, ℕ, List, [], ◌∷◌, ◌++◌, false, Option, None, Some, option_to_list}
 use Rattle.std.specs.Option.{is_some}
 use Rattle.fk_frame.specs.declared.line_reader.Line.{Line}
 use Rattle.fk_frame.specs.Reading.{HasLine, HasLongLine}
@@ -35,7 +35,8 @@ pub record Hears (line : Line) (ask : Option Ask) (old new : Talking) : Type 0 w
 
 -- a line that is too long was answered, and ended the talk
 abbrev pub ended_by_long_line : Talking → Talking
-ended_by_long_line talk = record (taken talk (Some too_long)) { standing = Over }
+ended_by_long_line talk =
+    record talk { out = talk.out ++ out (too_long ∷ []) []; standing = Over }
 
 -- a talk read lines that it answered itself
 pub record Goes (old new : Talking) : Type 0 where

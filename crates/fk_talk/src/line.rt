@@ -1,5 +1,5 @@
 // What one line gives, and how far the talk comes by it.
-ghost use Rattle.std.specs.Prelude.{◌≡◌, ◌≤◌, length, IfOk, None, Some};
+ghost use Rattle.std.specs.Prelude.{◌≡◌, ◌≤◌, codes, length, IfOk, None, Some};
 ghost use Rattle.fk_frame.specs.declared.line_reader.Line.TheVariants.{Whole};
 ghost use Rattle.fk_frame.specs.declared.reply.Reply.TheVariants.{Error};
 ghost use Rattle.fk_frame.specs.Lines.{longest_line};
@@ -8,7 +8,7 @@ ghost use Rattle.fk_job.specs.Spellings.{IsText};
 ghost use Rattle.fk_model.specs.declared.gate.Gate.{Gate as AGate};
 ghost use Rattle.fk_model.specs.declared.item.Item.TheVariants.{Own};
 ghost use Rattle.fk_model.specs.Handshake.{let_in};
-ghost use Rattle.fk_model.specs.Script.{hello_item, too_long};
+ghost use Rattle.fk_model.specs.Script.{hello_item};
 ghost use Rattle.fk_talk.specs.declared.standing.Standing.TheVariants.{Nobody, Over, Somebody};
 ghost use Rattle.fk_talk.specs.Hearing.{Does, HasTextAsWid, IsHeardWell, IsInForm, IsLetIn, standing_by, welcomed};
 
@@ -135,7 +135,7 @@ fn answer(item: Item) -> Heard
 
 /// What a line gives that is too long.
 pub(crate) fn long_line(alloc: Global) -> Reply
-    ensures item { Own result ≡ too_long }
+    ensures is { result ≡ Error (codes "ERR Line too long") }
     ensures form { IsWellFormed result }
 {
     Reply::Error(Text::fixed(alloc, b"ERR Line too long"))

@@ -1,4 +1,5 @@
-ghost use Rattle.std.specs.Prelude.{◌≡◌, ◌≤◌, ◌++◌, [], length, drop, IfOk, OnErr, OnOk};
+ghost use Rattle.std.specs.Prelude.{◌≡◌, ◌≤◌, ◌++◌, [], codes, length, drop, IfOk, OnErr, OnOk};
+ghost use Rattle.std.specs.Fmt.{decimal};
 ghost use Rattle.fk_frame.specs.Replies.{reply_bytes, IsWellFormed};
 ghost use Rattle.fk_model.specs.Answers.{answer_bytes, reply_of};
 ghost use Rattle.fk_model.specs.Handshake as spec;
@@ -99,14 +100,20 @@ pub(crate) fn greeting(alloc: Global, gate: &Gate) -> Result<Outgoing, AllocErro
     ensures { IfOk result (λ out. out ≡ spec.greeting gate.now) }
 {
     let mut out = Outgoing::new(alloc);
-    match gate.password {
+    match &gate.password {
         None => out.put(b"+HI {\"v\":2}\r\n")?,
-        Some(_) => {
-            let rounds = format!(in alloc; "+HI {{\"i\":{},\"s\":\"", gate.rounds)?;
-            out.put(rounds.as_bytes())?;
-            out.put(&salt_text(gate.salt))?;
-            out.put(b"\",\"v\":2}\r\n")?;
-        }
+        Some(_) => put_salted(alloc, &mut out, gate.rounds, gate.salt)?,
     }
     Ok(out)
+}
+
+/// Adds the greeting of a server whose password is set.
+fn put_salted(alloc: Global, out: &mut Outgoing, rounds: u32, salt: u64) -> Result<(), AllocError>
+    ensures { OnOk result (out.new ≡ out.old ++ codes "+HI {\"i\":" ++ decimal rounds
+        ++ codes ",\"s\":\"" ++ spec.salt_text salt ++ codes "\",\"v\":2}\r\n") }
+{
+    let head = format!(in alloc; "+HI {{\"i\":{},\"s\":\"", rounds)?;
+    out.put(head.as_bytes())?;
+    out.put(&salt_text(salt))?;
+    out.put(b"\",\"v\":2}\r\n")
 }

@@ -8,6 +8,7 @@ use sha2::{Digest, Sha256};
 
 /// The hash that a client tells of a password: SHA-256 of the password with the salt behind it, then
 /// of what came, and so on, in hexadecimal digits. It takes no memory.
+#[tactic(auto, using(crate::proofs::Rounds::one_round, crate::proofs::Rounds::no_round))]
 pub fn pass_hash(password: &[u8], salt: &[u8], rounds: u32) -> [u8; 64]
     requires { 1 ≤ rounds }
     ensures { result ≡ spec.pass_hash password.now salt.now rounds }
