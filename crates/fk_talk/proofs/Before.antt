@@ -1,5 +1,5 @@
 -- What a line does before a HELLO was accepted, by what it asks for.
-use Rattle.std.proofs.Common.{◌≡◌, ◌≢◌, refl, sym, subst, ap, ℕ, List, [], ◌∷◌, if◌then◌else◌, None, Some}
+use Rattle.std.proofs.Common.{◌≡◌, ◌≢◌, refl, ℕ, List, if◌then◌else◌, None, Some}
 use Rattle.std.specs.Prelude.{IfOk, Result, Ok, Err}
 use Rattle.fk_command.specs.declared.verb.Verb.{Verb}
 use Rattle.fk_command.specs.declared.verb.Verb.TheVariants as verbs

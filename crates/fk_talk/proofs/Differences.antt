@@ -1,5 +1,5 @@
 -- The bits in which numbers differ: none where they are the same.
-use Rattle.std.proofs.Common.{◌≡◌, ◌⊎◌, inl, inr, List, length, slice_index, ℕ, ◌<◌, ◌≤◌, ◌+◌, arith, bit_and, bit_or, sym}
+use Rattle.std.proofs.Common.{◌≡◌, ◌⊎◌, inl, inr, List, length, slice_index, ℕ, ◌<◌, ◌≤◌, ◌+◌, arith, bit_or}
 use Rattle.std.proofs.lemmas.Bool.Decides.{nat_tests}
 use Rattle.std.proofs.lemmas.List.{ext_get_or}
 use Rattle.std.specs.Int.Bits.{bit_xor, xor_self, xor_add_and}

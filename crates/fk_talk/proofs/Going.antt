@@ -1,15 +1,14 @@
--- A talk that goes on from line to line: how it begins, is brought on by a line, gives an ask, and ends.
-use Rattle.std.proofs.Common.{◌≡◌, ◌≢◌, ◌⊎◌, refl, sym, subst, ap, ◌∙◌, ℕ, List, [], ◌∷◌, ◌++◌, length, true, false, Option, None, Some, append_assoc}
+-- A talk that goes on from line to line: a line brings it on, gives an ask, or ends it.
+use Rattle.std.proofs.Common.{◌≡◌, ◌≢◌, refl, sym, subst, ap, ◌∙◌, ℕ, List, [], ◌∷◌, ◌++◌, length, Option, None, Some, append_assoc}
 use Rattle.std.specs.Prelude.{IfOk, Result, Ok, Err, option_to_list, unwrap_or}
 use Rattle.std.proofs.lemmas.Bool.{false≢true}
 use Rattle.std.specs.Option.{is_some}
-use Rattle.std.proofs.lemmas.List.{append-nil}
 use Rattle.fk_frame.specs.declared.line_reader.Line.TheVariants.{Whole}
-use Rattle.fk_frame.specs.Reading.{HasLine, HasLongLine, HasNoLine, IsFirstLine}
+use Rattle.fk_frame.specs.Reading.{HasLongLine, IsFirstLine}
 use Rattle.fk_model.specs.declared.ask.Ask.{Ask}
 use Rattle.fk_model.specs.declared.item.Item.{Item}
 use Rattle.fk_model.specs.declared.item.Item.TheVariants.{Own, Asks}
-use Rattle.fk_model.specs.Out.{asks_of, out}
+use Rattle.fk_model.specs.Out.{out}
 use Rattle.fk_model.specs.Script.{too_long}
 use Rattle.fk_model.proofs.Outs.{asks_of-append, out-front}
 use Rattle.fk_talk.specs.declared.standing.Standing.{Standing}
@@ -18,23 +17,10 @@ use Rattle.fk_talk.specs.declared.turn.Turn.{Turn}
 use Rattle.fk_talk.specs.declared.turn.Turn.TheVariants as turn
 use Rattle.fk_talk.specs.Advance.{Advances}
 use Rattle.fk_talk.specs.Hearing.{AreHeard, standing_after}
-use Rattle.fk_talk.specs.Steps.{Goes, Halts, Hears, asked_by, ended_by_long_line, taken}
-use Rattle.fk_talk.specs.Talks.{AreOwn, Comes, IsNext, Reads, Starves, Talking}
-use Rattle.fk_talk.proofs.Advance.{joined, stays}
+use Rattle.fk_talk.specs.Steps.{Goes, Hears, asked_by, ended_by_long_line, taken}
+use Rattle.fk_talk.specs.Talks.{AreOwn, Comes, Reads, Talking}
+use Rattle.fk_talk.proofs.Advance.{joined}
 use Rattle.fk_talk.proofs.Heard.{by_heard, by_heard_long}
-
-pub begins : (talk : Talking) → talk.asked ≡ false → talk.starved ≡ false → Goes talk talk
-begins talk asked starved = record {
-  own = [];
-  are_own = refl;
-  reads = record {
-    advances = stays talk.gate talk.standing talk.waiting;
-    put = sym (append-nil talk.out);
-    gate = refl;
-    starved = starved;
-  };
-  asked = asked;
-}
 
 -- ---- items behind those that the talk answered itself
 
@@ -140,50 +126,3 @@ pub ended_long : {E : Type 0} (first now new : Talking) (rest : List ℕ) (resul
 ended_long first now new rest (Ok ended) so_far going long (is, after_it) =
     rw (is, after_it) (ends_long first now rest so_far going long)
 ended_long first now new rest (Err fault) so_far going long is = tt
-
--- the talk is over
-pub is_over : (first now : Talking) → Goes first now → now.standing ≡ Over → Comes turn.Over first now
-is_over first now so_far over =
-    record { own = so_far.own; are_own = so_far.are_own; is = (so_far.reads, so_far.asked, over) }
-
--- no line is left
-pub needs : (first now : Talking) (rest : List ℕ) → Goes first now → now.standing ≢ Over
-    → HasNoLine now.waiting rest → Comes turn.Need first (record now { waiting = rest })
-needs first now rest so_far going none = record {
-  own = so_far.own;
-  are_own = so_far.are_own;
-  is = subst (λ left. IsNext turn.Need first (record now { waiting = left }) so_far.own) (sym none.same)
-      (so_far.reads, so_far.asked, going, none.lines);
-}
-
--- memory runs out
-pub halts : (first now new : Talking) → Goes first now → now.standing ≢ Over
-    → HasLine now.waiting ⊎ HasLongLine now.waiting now.waiting → new.out ≡ now.out → new.asked ≡ now.asked
-    → Halts first new
-halts first now new so_far going left same_out same_asked = record {
-  own = so_far.own;
-  are_own = so_far.are_own;
-  standing = now.standing;
-  rest = now.waiting;
-  advances = so_far.reads.advances;
-  put = same_out ∙ so_far.reads.put;
-  going = going;
-  left = left;
-  asked = same_asked ∙ so_far.asked;
-}
-
--- and the talk is starved
-pub starves : (first new starved : Talking) → Halts first new → starved.out ≡ new.out → starved.asked ≡ new.asked
-    → starved.starved ≡ true → Starves first starved
-starves first new starved so_far same_out same_asked is = record {
-  own = so_far.own;
-  are_own = so_far.are_own;
-  standing = so_far.standing;
-  rest = so_far.rest;
-  advances = so_far.advances;
-  put = same_out ∙ so_far.put;
-  going = so_far.going;
-  left = so_far.left;
-  starved = is;
-  asked = same_asked ∙ so_far.asked;
-}

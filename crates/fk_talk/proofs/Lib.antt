@@ -6,3 +6,5 @@ pub mod Differences
 pub mod Behind
 pub mod Before
 pub mod Going
+pub mod Talked
+pub mod MoreGiven

@@ -1,5 +1,5 @@
 -- One round of a password's hash behind the other.
-use Rattle.std.proofs.Common.{◌≡◌, ℕ, ◌+◌, List, zero, suc, refl, add-one, ◌∙◌}
+use Rattle.std.proofs.Common.{◌≡◌, ℕ, ◌+◌, List, refl, add-one, ◌∙◌}
 use Rattle.sha2.specs.Sha256.{sha256}
 use Rattle.fk_model.specs.Handshake.{hashed}
 

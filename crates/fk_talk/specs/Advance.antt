@@ -1,5 +1,5 @@
 -- How a talk goes on while its stream is read in pieces.
-use Rattle.std.specs.Prelude.{◌≡◌, ◌⊎◌, ℕ, List, [], ◌++◌, Bool, true, Option, None, Some}
+use Rattle.std.specs.Prelude.{◌≡◌, ◌⊎◌, ℕ, List, [], ◌++◌, Bool, true, None, Some}
 use Rattle.fk_frame.specs.declared.line_reader.Line.{Line}
 use Rattle.fk_frame.specs.Lines.{lines_of}
 use Rattle.fk_model.specs.declared.gate.Gate.{Gate}

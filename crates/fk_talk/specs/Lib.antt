@@ -2,3 +2,4 @@ pub mod Advance
 pub mod Hearing
 pub mod Talks
 pub mod Steps
+pub mod Whole

@@ -7,7 +7,6 @@ use Rattle.fk_model.specs.declared.ask.Ask.{Ask}
 use Rattle.fk_model.specs.declared.item.Item.{Item}
 use Rattle.fk_model.specs.declared.item.Item.TheVariants.{Own, Asks}
 use Rattle.fk_model.specs.Out.{out}
-use Rattle.fk_model.specs.Range.{IsInRange}
 use Rattle.fk_model.specs.Script.{too_long}
 use Rattle.fk_talk.specs.declared.standing.Standing.{Standing}
 use Rattle.fk_talk.specs.declared.standing.Standing.TheVariants.{Over}
@@ -55,4 +54,5 @@ pub record Halts (old new : Talking) : Type 0 where
   pub put : new.out ≡ old.out ++ out own []
   pub going : standing ≢ Over
   pub left : HasLine rest ⊎ HasLongLine rest rest
+  pub gate : new.gate ≡ old.gate
   pub asked : new.asked ≡ false

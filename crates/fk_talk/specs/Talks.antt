@@ -1,8 +1,9 @@
 -- A talk, as contracts see it, and what its calls do.
-use Rattle.std.specs.Prelude.{◌≡◌, ◌≢◌, ◌≤◌, ◌⊎◌, ◌+◌, ℕ, drop, List, [], ◌∷◌, ◌++◌, length, Bool, true, false}
+use Rattle.std.specs.Prelude.{◌≡◌, ◌≢◌, ◌≤◌, ◌⊎◌, ℕ, drop, List, [], ◌∷◌, ◌++◌, length, Bool, true, false}
 use Rattle.fk_frame.specs.Lines.{lines_of}
 use Rattle.fk_frame.specs.Reading.{HasLine, HasLongLine}
 use Rattle.fk_model.specs.declared.answer.Answer.{Answer}
+use Rattle.fk_model.specs.declared.ask.Ask.{Ask as AnAsk}
 use Rattle.fk_model.specs.declared.gate.Gate.{Gate}
 use Rattle.fk_model.specs.declared.item.Item.{Item}
 use Rattle.fk_model.specs.declared.item.Item.TheVariants.{Asks}
@@ -94,6 +95,7 @@ pub record Starves (old new : Talking) : Type 0 where
   pub put : new.out ≡ old.out ++ out own []
   pub going : standing ≢ Over
   pub left : HasLine rest ⊎ HasLongLine rest rest
+  pub gate : new.gate ≡ old.gate
   pub starved : new.starved ≡ true
   pub asked : new.asked ≡ false
 
@@ -103,13 +105,24 @@ HasAskInRange (turn.Ask ask) = IsInRange ask
 HasAskInRange turn.Need = Unit {0}
 HasAskInRange turn.Over = Unit {0}
 
--- These bytes were fed to a talk of this gate. They gave these items so far, whose asks have these answers,
--- but for one that has none yet. What is due to them is what was sent, and then what is to be sent.
+-- the last of the items is an ask that has no answer yet, and each ask before it has one
+pub record AwaitsAnswer (items : List Item) (answers : List Answer) : Type 0 where
+  pub front : List Item
+  pub ask : AnAsk
+  pub are : items ≡ front ++ Asks ask ∷ []
+  pub each : length answers ≡ length (asks_of front)
+
+-- These bytes were fed to a talk of this gate, which gave these items so far and stands where they lead,
+-- unless memory ran out. Their asks have these answers, but for the last while it has none. What is due to
+-- them is what was sent, and then what is to be sent.
 pub record HasTalked
-    (gate : Gate) (fed_bytes : List ℕ) (items : List Item) (answers : List Answer) (sent : List ℕ) (talk : Talking)
+    (gate : Gate) (bytes : List ℕ) (items : List Item) (answers : List Answer) (sent : List ℕ) (talk : Talking)
     : Type 0 where
   pub through : talk.gate ≡ gate
-  pub advances : Advances gate Nobody fed_bytes items talk.standing talk.waiting
-  pub settled : talk.asked ≡ false → length answers ≡ length (asks_of items)
-  pub one_left : talk.asked ≡ true → length answers + 1 ≡ length (asks_of items)
+  pub standing : Standing
+  pub rest : List ℕ
+  pub advances : Advances gate Nobody bytes items standing rest
+  pub here : talk.starved ≡ false → (talk.standing ≡ standing) × (talk.waiting ≡ rest)
+  pub settled : talk.asked ≡ false → talk.starved ≡ false → length answers ≡ length (asks_of items)
+  pub waits : talk.asked ≡ true → AwaitsAnswer items answers
   pub put : sent ++ talk.out ≡ output gate items answers

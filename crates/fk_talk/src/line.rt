@@ -58,9 +58,9 @@ fn before_hello(alloc: Global, gate: &Gate, line: &[u8]) -> Result<Heard, AllocE
     ensures form { IfOk result IsHeardWell }
 {
     match command_in(line) {
-        Verb::End => Ok(end()),
+        Verb::End => Ok(ending(None)),
         Verb::Hello => greet(alloc, read_hello(alloc, gate, arguments_of(line))?),
-        _ => Ok(answer(refuse(alloc, b"ERR HELLO first"))),
+        _ => Ok(staying(refuse(alloc, b"ERR HELLO first"))),
     }
 }
 
@@ -72,10 +72,7 @@ fn greet(alloc: Global, told: Welcome) -> Result<Heard, AllocError>
     ensures form { IfOk result IsHeardWell }
 {
     match told {
-        Welcome::TurnedAway(refusal) => Ok(Heard {
-            item: Some(refuse(alloc, refusal.text())),
-            standing: Some(Standing::Over),
-        }),
+        Welcome::TurnedAway(refusal) => Ok(ending(Some(refuse(alloc, refusal.text())))),
         Welcome::LetIn(wid) => Ok(Heard {
             item: Some(accept(alloc, &wid)?),
             standing: Some(Standing::Somebody(wid)),
@@ -105,25 +102,25 @@ fn behind_hello(alloc: Global, wid: &Text, line: &[u8]) -> Result<Heard, AllocEr
     ensures form { IfOk result IsHeardWell }
 {
     match read_command(alloc, line, wid)? {
-        Command::Ask(ask) => Ok(answer(Item::Asks(ask))),
-        Command::End => Ok(end()),
-        Command::Wrong(reply) => Ok(answer(Item::Own(reply))),
+        Command::Ask(ask) => Ok(staying(Item::Asks(ask))),
+        Command::End => Ok(ending(None)),
+        Command::Wrong(reply) => Ok(staying(Item::Own(reply))),
     }
 }
 
-/// The end of the talk, which gives nothing.
-fn end() -> Heard
-    ensures item { result.item ≡ None }
+/// A line that ends the talk, and what it gives, if it gives anything.
+fn ending(item: Option<Item>) -> Heard
+    ensures item { result.item ≡ item }
     ensures standing { result.standing ≡ Some Over }
 {
     Heard {
-        item: None,
+        item,
         standing: Some(Standing::Over),
     }
 }
 
-/// An item by which the talk stays where it is.
-fn answer(item: Item) -> Heard
+/// A line by which the talk stays where it is, and what it gives.
+fn staying(item: Item) -> Heard
     ensures item { result.item ≡ Some item }
     ensures standing { result.standing ≡ None }
 {

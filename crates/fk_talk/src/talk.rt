@@ -1,4 +1,4 @@
-ghost use Rattle.std.specs.Prelude.{◌≡◌, ◌≤◌, ◌<◌, ◌↔◌, length, true, false, IfOk, IfSome, IsTrue, OnErr, OnOk, Ok};
+ghost use Rattle.std.specs.Prelude.{◌≡◌, ◌≤◌, ◌<◌, ◌↔◌, length, true, false, [], IfOk, IfSome, IsTrue, MatchResult, OnErr, OnOk, Ok};
 ghost use Rattle.fk_frame.specs.declared.line_reader.Line.TheVariants.{Whole};
 ghost use Rattle.fk_frame.specs.Lines.{longest_line};
 ghost use Rattle.fk_frame.specs.Replies.{IsWellFormed};
@@ -8,7 +8,8 @@ ghost use Rattle.fk_talk.specs.declared.standing.Standing.TheVariants as standin
 ghost use Rattle.fk_talk.specs.declared.turn.Turn.TheVariants as turn;
 ghost use Rattle.fk_talk.specs.Hearing.{IsInForm};
 ghost use Rattle.fk_talk.specs.Steps.{asked_by, ended_by_long_line, taken, Halts, Hears};
-ghost use Rattle.fk_talk.specs.Talks.{answered, fed, opened, starving, without_sent, Comes, HasAskInRange, Starves};
+ghost use Rattle.fk_talk.specs.Talks.{answered, fed, opened, starving, without_sent, Comes, HasAskInRange, HasTalked, Starves};
+ghost use Rattle.fk_talk.specs.Whole.{Answers, BreaksOff, Feeds, Gives, Keeps, Sends};
 
 use crate::line::{hear, long_line};
 use crate::outgoing::{Outgoing, greeting};
@@ -59,7 +60,8 @@ impl Talk {
     /// A talk whose HELLO has to pass this gate. The greeting is to be sent.
     pub fn open(alloc: Global, gate: Gate) -> Result<Talk, AllocError>
         requires { 1 ≤ gate.rounds }
-        ensures { IfOk result (λ talk. talk ≡ opened gate) }
+        ensures ok { IfOk result (λ talk. talk ≡ opened gate) }
+        ensures whole { IfOk result (HasTalked gate [] [] [] []) }
     {
         let out = greeting(alloc, &gate)?;
         Ok(Talk {
@@ -79,12 +81,16 @@ impl Talk {
         ensures ok { OnOk result (self.new ≡ fed self.old piece.now) }
         ensures err { OnErr result (self.new ≡ starving self.old) }
         ensures wanted { OnErr result (0 < length piece.now) }
+        ensures whole { MatchResult result
+            (λ _. Feeds piece.now self.old self.new) (λ _. Keeps self.old self.new) }
     {
-        let taken = self.lines.feed(piece);
-        if taken.is_err() {
-            self.starved = true;
+        match self.lines.feed(piece) {
+            Ok(()) => Ok(()),
+            Err(error) => {
+                self.starved = true;
+                Err(error)
+            }
         }
-        taken
     }
 
     /// What comes next: the ask of the next line that asks for a turn, the end of the talk, or the
@@ -95,15 +101,19 @@ impl Talk {
         ensures over { self.old.starved ≡ true → (result ≡ Ok turn.Over) × (self.new ≡ self.old) }
         ensures err { OnErr result (Starves self.old self.new) }
         ensures range { IfOk result HasAskInRange }
+        ensures whole { MatchResult result
+            (λ turn. Gives turn self.old self.new) (λ _. BreaksOff self.old self.new) }
     {
         if self.starved {
             return Ok(Turn::Over);
         }
-        let turn = self.read();
-        if turn.is_err() {
-            self.starved = true;
+        match self.read() {
+            Ok(turn) => Ok(turn),
+            Err(error) => {
+                self.starved = true;
+                Err(error)
+            }
         }
-        turn
     }
 
     /// Takes the answer to the ask that was given: its reply is to be sent.
@@ -112,13 +122,17 @@ impl Talk {
         requires form { IsWellFormed (reply_of answer.now) }
         ensures ok { OnOk result (self.new ≡ answered self.old answer.now) }
         ensures err { OnErr result (self.new ≡ starving self.old) }
+        ensures whole { MatchResult result
+            (λ _. Answers answer.now self.old self.new) (λ _. Keeps self.old self.new) }
     {
-        let put = self.out.put_answer(answer);
         self.asked = false;
-        if put.is_err() {
-            self.starved = true;
+        match self.out.put_answer(answer) {
+            Ok(()) => Ok(()),
+            Err(error) => {
+                self.starved = true;
+                Err(error)
+            }
         }
-        put
     }
 
     /// What is to be sent.
@@ -131,7 +145,8 @@ impl Talk {
     /// Gives up the first bytes of what was to be sent. It takes no memory.
     pub fn sent(&mut self, count: usize)
         requires { count ≤ length self.old.out }
-        ensures { self.new ≡ without_sent count self.old }
+        ensures is { self.new ≡ without_sent count self.old }
+        ensures whole { Sends count self.old self.new }
     {
         self.out.sent(count);
     }

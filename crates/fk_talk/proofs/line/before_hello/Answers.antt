@@ -4,7 +4,7 @@ use Rattle.fk_talk.proofs.line.before_hello.Goals as goal
 
 pub returns-in-End-clause-does : goal.returns-in-End-clause-does
 returns-in-End-clause-does c =
-    nobody_ends _ _ c.end.result c.in-End.ensures c.end.ensures.item c.end.ensures.standing
+    nobody_ends _ _ c.ending.result c.in-End.ensures c.ending.ensures.item c.ending.ensures.standing
 
 pub returns-in_ok-read_hello-in-Hello-clause-does : goal.returns-in_ok-read_hello-in-Hello-clause-does
 returns-in_ok-read_hello-in-Hello-clause-does c =
@@ -13,6 +13,6 @@ returns-in_ok-read_hello-in-Hello-clause-does c =
 
 pub returns-in_default-clause-does : goal.returns-in_default-clause-does
 returns-in_default-clause-does c =
-    let item = c.answer.ensures.item ∙ ap (λ one. Some one) c.refuse.ensures.item in
-    nobody_is_refused _ _ c.command_in.result c.answer.result c.in_default.not-End c.in_default.not-Hello
-    c.command_in.ensures item c.answer.ensures.standing
+    let item = c.staying.ensures.item ∙ ap (λ one. Some one) c.refuse.ensures.item in
+    nobody_is_refused _ _ c.command_in.result c.staying.result c.in_default.not-End c.in_default.not-Hello
+    c.command_in.ensures item c.staying.ensures.standing
