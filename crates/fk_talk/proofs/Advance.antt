@@ -12,6 +12,7 @@ use Rattle.fk_model.specs.Script.{AreItemsFrom, AreItemsOf, IsOver, IsScript, en
 use Rattle.fk_talk.specs.declared.standing.Standing.{Standing}
 use Rattle.fk_talk.specs.declared.standing.Standing.TheVariants.{Nobody, Somebody, Over}
 use Rattle.fk_talk.specs.Advance.{Advances, AreDueFrom, IsIdle, ends_from}
+use Rattle.fk_talk.specs.Hearing.{standing_of}
 
 -- ---- steps
 
@@ -45,10 +46,6 @@ fed {gate = gate} {from = from} {to = to} {bytes = bytes} {rest = rest} {items =
 }
 
 -- ---- who was let in, as a standing
-
-abbrev pub standing_of : Option (List ℕ) → Standing
-standing_of None = Nobody
-standing_of (Some wid) = Somebody wid
 
 due_to : (gate : Gate) (speaker : Option (List ℕ)) (lines : List Line) (items : List Item)
     → AreItemsFrom gate speaker (talk_from gate speaker lines) items

@@ -46,7 +46,9 @@ module _
       ∙ sym (output-front gate items more answers each)
 
   own_each : (own : List Item) → AreOwn own → length answers ≡ length (asks_of (items ++ own))
-  own_each own are = each ∙ ap length (sym (asks_of-append items own ∙ ap (λ asks. asks_of items ++ asks) are ∙ append-nil (asks_of items)))
+  own_each own are =
+      each
+      ∙ sym (ap length (asks_of-append items own ∙ ap (λ asks. asks_of items ++ asks) are ∙ append-nil (asks_of items)))
 
   -- items of its own
   own_talked : (own : List Item) (new : Talking) → AreOwn own → Reads old new own → new.asked ≡ false

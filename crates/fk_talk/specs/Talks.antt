@@ -71,7 +71,8 @@ pub record Reads (old new : Talking) (items : List Item) : Type 0 where
   pub gate : new.gate ≡ old.gate
   pub starved : new.starved ≡ false
 
--- what comes next behind lines that gave these items: a line that asks for a turn, or the end of the talk, or no line is left
+-- what comes next behind lines that gave these items: a line that asks for a turn, or the end of the talk,
+-- or no line is left
 abbrev pub IsNext : Turn → Talking → Talking → List Item → Type 0
 IsNext (turn.Ask ask) old new own = Reads old new (own ++ Asks ask ∷ []) × (new.asked ≡ true)
 IsNext turn.Need old new own =

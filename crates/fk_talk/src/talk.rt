@@ -38,9 +38,7 @@ pub struct Talk {
 }
 
 impl Model for Talk {
-    ghost use Rattle.std.specs.Prelude.{◌≤◌};
-    ghost use Rattle.fk_talk.specs.Hearing.{HasTextAsWid};
-    ghost use Rattle.fk_talk.specs.Talks.{Talking, IsFit};
+    ghost use Rattle.fk_talk.specs.Talks.{IsFit, Talking};
 
     ghost Value = { Talking };
 
