@@ -9,6 +9,7 @@ use fk_core::Tables;
 use fk_io::{ByteSink, ByteSource, Failed, ListClock, ListDice, Source};
 use fk_server::{MemoryStore, pipe};
 use fk_time::GREATEST;
+use fk_workers::Workers;
 use std::alloc::{AllocError, Global};
 use std::mem::replace;
 
@@ -21,8 +22,13 @@ pub struct Outcome {
     pub unread: Vec<u8>,
 }
 
-/// Serves a connection over tables.
-pub fn serve(alloc: Global, run: &Run, tables: &mut Tables) -> Result<Outcome, ScriptFault> {
+/// Serves a connection over tables and workers.
+pub fn serve(
+    alloc: Global,
+    run: &Run,
+    tables: &mut Tables,
+    workers: &mut Workers,
+) -> Result<Outcome, ScriptFault> {
     if !is_ready(tables) {
         return Err(ScriptFault::NextTooLow);
     }
@@ -33,9 +39,17 @@ pub fn serve(alloc: Global, run: &Run, tables: &mut Tables) -> Result<Outcome, S
         to: ByteSink::new(alloc, &run.failing_writes)?,
         width: run.width,
     };
-    let mut store = MemoryStore::over(alloc, replace(tables, Tables::empty(alloc)), clock, dice);
+    let mut store = MemoryStore::over(
+        alloc,
+        replace(tables, Tables::empty(alloc)),
+        replace(workers, Workers::new(alloc)),
+        clock,
+        dice,
+    );
     let status = pipe(alloc, &run.words, &mut input, &mut output, &mut store);
-    *tables = store.into_tables();
+    let (kept, listed) = store.into_parts();
+    *tables = kept;
+    *workers = listed;
     Ok(Outcome {
         status,
         written: Vec::from_slice(alloc, output.to.bytes())?,

@@ -5,15 +5,17 @@ use crate::serving::serve;
 use crate::shown::push_written;
 use crate::steps::{make, move_of};
 use fk_core::Tables;
+use fk_workers::Workers;
 use std::alloc::Global;
 use std::fmt::Write;
 
-/// Where a script is played: the tables, the run that is being read, and what came of those before
-/// it.
+/// Where a script is played: the tables and the workers of its server, the run that is being read,
+/// and what came of those before it.
 #[derive(Drop)]
 pub struct Stage<'a> {
     alloc: Global,
     tables: Tables,
+    workers: Workers,
     run: Option<Run<'a>>,
     transcript: String,
 }
@@ -24,6 +26,7 @@ impl<'a> Stage<'a> {
         Stage {
             alloc,
             tables: Tables::empty(alloc),
+            workers: Workers::new(alloc),
             run: None,
             transcript: String::new(alloc),
         }
@@ -62,9 +65,15 @@ impl<'a> Stage<'a> {
             "run" => {
                 self.finish()?;
                 self.tables = Tables::empty(self.alloc);
+                self.workers = Workers::new(self.alloc);
                 self.begin(line)
             }
             "then" => {
+                self.finish()?;
+                self.workers = Workers::new(self.alloc);
+                self.begin(line)
+            }
+            "also" => {
                 self.finish()?;
                 self.begin(line)
             }
@@ -91,7 +100,7 @@ impl<'a> Stage<'a> {
         let Some(run) = self.run.take() else {
             return Ok(());
         };
-        let outcome = serve(self.alloc, &run, &mut self.tables)?;
+        let outcome = serve(self.alloc, &run, &mut self.tables, &mut self.workers)?;
         push_written(&mut self.transcript, &outcome.written)?;
         let status = outcome.status;
         writeln!(self.transcript, "status {status}")?;
