@@ -11,7 +11,7 @@ use Rattle.fk_model.specs.declared.move_.Move.{Move}
 use Rattle.fk_model.specs.declared.move_.Move.TheVariants.{Drop}
 use Rattle.fk_model.specs.Limits.{raised}
 use Rattle.fk_model.specs.Rows.{ticket_of}
-use Rattle.fk_model.specs.State.{KeptState}
+use Rattle.fk_model.specs.State.{KeptState, State, Worker, with_workers}
 use Rattle.fk_model.specs.Orders.{leased}
 use Rattle.fk_model.specs.Between.{IsWellKept}
 use Rattle.fk_model.specs.Bringing.{brought_up}
@@ -29,8 +29,8 @@ record IsEnded (up : KeptState) (found : Option (ℕ × Row)) (front moves : Lis
   made : moves ≡ front ++ map (λ filed. Drop (ticket_of filed)) (option_to_list found)
   counted : AreNumbersOf (option_map_or (finished up) found up) numbers
 
-ended : (before up : KeptState) (jid : List ℕ) (moment word : ℕ) (front moves : List Move) (numbers : Numbers)
-    → IsEnded up (leased up jid) front moves numbers
+ended : (before : KeptState) (up : State) (jid : List ℕ) (moment word : ℕ) (front moves : List Move)
+    (numbers : Numbers) → IsEnded up.kept (leased up.kept jid) front moves numbers
     → IsDone before up (Ack jid) moment word ok front moves numbers
 unfolding said moves_of
 ended before up jid moment word front moves numbers is =
@@ -52,24 +52,25 @@ one_ends up (Some filed) front numbers ticket one has = record {
 }
 
 -- no worker has a row of the jid beyond the moment
-pub none_acknowledged : (kept : KeptState) (jid : List ℕ) (moment word : ℕ) (front : List Move) (numbers : Numbers)
-    → IsWellKept kept → moment < greatest → None ≡ option_map ticket_of (leased_beyond kept jid moment)
+pub none_acknowledged : (kept : KeptState) (workers : List Worker) (jid : List ℕ) (moment word : ℕ)
+    (front : List Move) (numbers : Numbers) → IsWellKept kept → moment < greatest → None ≡ option_map ticket_of (leased_beyond kept jid moment)
     → AreNumbersOf (brought_up kept moment word) numbers
-    → IsDone kept (brought_up kept moment word) (Ack jid) moment word ok front front numbers
-none_acknowledged kept jid moment word front numbers well told none has =
-    ended kept (brought_up kept moment word) jid moment word front front numbers
+    → IsDone kept (with_workers (brought_up kept moment word) workers) (Ack jid) moment word ok front front numbers
+none_acknowledged kept workers jid moment word front numbers well told none has =
+    ended kept (with_workers (brought_up kept moment word) workers) jid moment word front front numbers
     (none_ends (brought_up kept moment word) (leased (brought_up kept moment word) jid) front numbers
     (none ∙ ap (option_map ticket_of) (sym (leased_up kept jid moment word well told))) has)
 
 -- the row of a ticket leaves
-pub one_acknowledged : (kept : KeptState) (jid : List ℕ) (moment word ticket : ℕ) (front : List Move)
+pub one_acknowledged : (kept : KeptState) (workers : List Worker) (jid : List ℕ) (moment word ticket : ℕ) (front : List Move)
     (numbers : Numbers) → IsWellKept kept → moment < greatest
     → Some ticket ≡ option_map ticket_of (leased_beyond kept jid moment)
     → AreNumbersOf (brought_up kept moment word) numbers
-    → IsDone kept (brought_up kept moment word) (Ack jid) moment word ok front (front ++ Drop ticket ∷ [])
+    → IsDone kept (with_workers (brought_up kept moment word) workers) (Ack jid) moment word ok front
+    (front ++ Drop ticket ∷ [])
     (record numbers { processed = raised numbers.processed })
-one_acknowledged kept jid moment word ticket front numbers well told one has =
-    ended kept (brought_up kept moment word) jid moment word front (front ++ Drop ticket ∷ [])
+one_acknowledged kept workers jid moment word ticket front numbers well told one has =
+    ended kept (with_workers (brought_up kept moment word) workers) jid moment word front (front ++ Drop ticket ∷ [])
     (record numbers { processed = raised numbers.processed })
     (one_ends (brought_up kept moment word) (leased (brought_up kept moment word) jid) front numbers ticket
     (one ∙ ap (option_map ticket_of) (sym (leased_up kept jid moment word well told))) has)

@@ -16,12 +16,12 @@ use Rattle.fk_model.specs.declared.move_.Move.{Move}
 use Rattle.fk_model.specs.declared.move_.Move.TheVariants.{Add, Put}
 use Rattle.fk_model.specs.Limits.{later_by, second_length}
 use Rattle.fk_model.specs.Rows.{ticket_of, row_of, row_at}
-use Rattle.fk_model.specs.State.{KeptState, without_workers}
+use Rattle.fk_model.specs.State.{KeptState, State, Worker, with_workers}
 use Rattle.fk_model.specs.Spellings.{HasRowSpelling, HasSpelling}
 use Rattle.fk_model.specs.Between.{IsWellKept}
 use Rattle.fk_model.specs.Orders.{rank_of, is_queued, first_waiting}
 use Rattle.fk_model.specs.Bringing.{brought_up}
-use Rattle.fk_model.specs.Requests.{reserved_row}
+use Rattle.fk_model.specs.Requests.{is_held_back, fetched, reserved_row}
 use Rattle.fk_model.specs.Said.{Effect, said, handed_out, only_said}
 use Rattle.fk_model.specs.Turns.{move_to, moves_of}
 use Rattle.fk_model.proofs.Tickets.{row_holds}
@@ -70,46 +70,79 @@ row_has_bound kept ticket row well at =
 
 -- ---- the row that is found, if one is
 
-abbrev handed : KeptState → ℕ → List ℕ → Option (ℕ × Row) → Effect
-handed up moment wid found =
-    option_map_or (handed_out (without_workers up) moment wid) found (only_said (without_workers up) Nil)
+abbrev handed : State → ℕ → List ℕ → Option (ℕ × Row) → Effect
+handed up moment wid found = option_map_or (handed_out up moment wid) found (only_said up Nil)
 
 abbrev moved : ℕ → List ℕ → Option (ℕ × Row) → List Move
 moved moment wid found =
     map (λ filed. move_to (ticket_of filed) (reserved_row moment wid (row_of filed)))
     (option_to_list found)
 
-record IsHanded (up : KeptState) (moment : ℕ) (wid : List ℕ) (found : Option (ℕ × Row)) (reply : Reply)
+record IsHanded (up : State) (moment : ℕ) (wid : List ℕ) (found : Option (ℕ × Row)) (reply : Reply)
     (front moves : List Move) (numbers : Numbers) : Type 0 where
   answer : reply ≡ (handed up moment wid found).reply
   made : moves ≡ front ++ moved moment wid found
   counted : AreNumbersOf (handed up moment wid found).state.kept numbers
 
-done : (before up : KeptState) (wid : List ℕ) (queues : List (List ℕ)) (moment word : ℕ) (reply : Reply)
-    (front moves : List Move) (numbers : Numbers)
-    → IsHanded up moment wid (first_waiting up queues) reply front moves numbers
+handed_done : (before : KeptState) (up : State) (wid : List ℕ) (queues : List (List ℕ)) (moment word : ℕ)
+    (reply : Reply) (front moves : List Move) (numbers : Numbers)
+    → IsHanded up moment wid (fetched up wid queues) reply front moves numbers
     → IsDone before up (Fetch wid queues) moment word reply front moves numbers
 unfolding said moves_of
-done before up wid queues moment word reply front moves numbers is =
+handed_done before up wid queues moment word reply front moves numbers is =
     record { answer = is.answer; made = is.made; counted = is.counted }
 
-none_handed : (up : KeptState) (moment : ℕ) (wid : List ℕ) (found : Option (ℕ × Row)) (front : List Move)
-    (numbers : Numbers) → None ≡ option_map ticket_of found → AreNumbersOf up numbers
+not_held : (up : State) (moment : ℕ) (wid : List ℕ) (found : Option (ℕ × Row)) (held : Bool) (reply : Reply)
+    (front moves : List Move) (numbers : Numbers) → held ≡ false
+    → IsHanded up moment wid found reply front moves numbers
+    → IsHanded up moment wid (if held then None else found) reply front moves numbers
+not_held up moment wid found true reply front moves numbers not is = absurd (cc)
+not_held up moment wid found false reply front moves numbers not is = is
+
+-- where the worker isn't held back
+done : (before : KeptState) (up : State) (wid : List ℕ) (queues : List (List ℕ)) (moment word : ℕ) (reply : Reply)
+    (front moves : List Move) (numbers : Numbers) → is_held_back up.workers wid ≡ false
+    → IsHanded up moment wid (first_waiting up.kept queues) reply front moves numbers
+    → IsDone before up (Fetch wid queues) moment word reply front moves numbers
+done before up wid queues moment word reply front moves numbers not is =
+    handed_done before up wid queues moment word reply front moves numbers
+    (not_held up moment wid (first_waiting up.kept queues) (is_held_back up.workers wid) reply front moves
+    numbers not is)
+
+none_handed : (up : State) (moment : ℕ) (wid : List ℕ) (found : Option (ℕ × Row)) (front : List Move)
+    (numbers : Numbers) → None ≡ option_map ticket_of found → AreNumbersOf up.kept numbers
     → IsHanded up moment wid found Nil front front numbers
 none_handed up moment wid None front numbers none has =
     record { answer = refl; made = sym (append-nil front); counted = has }
 none_handed up moment wid (Some filed) front numbers none has = absurd (cc)
 
 -- no row waits
-pub none_fetched : (kept : KeptState) (wid : List ℕ) (queues : List (List ℕ)) (moment word : ℕ)
-    (front : List Move) (numbers : Numbers)
+pub none_fetched : (kept : KeptState) (workers : List Worker) (wid : List ℕ) (queues : List (List ℕ))
+    (moment word : ℕ) (front : List Move) (numbers : Numbers) → is_held_back workers wid ≡ false
     → None ≡ option_map ticket_of (first_waiting (brought_up kept moment word) queues)
     → AreNumbersOf (brought_up kept moment word) numbers
-    → IsDone kept (brought_up kept moment word) (Fetch wid queues) moment word Nil front front numbers
-none_fetched kept wid queues moment word front numbers none has =
-    let up = brought_up kept moment word in
-    done kept up wid queues moment word Nil front front numbers
-    (none_handed up moment wid (first_waiting up queues) front numbers none has)
+    → IsDone kept (with_workers (brought_up kept moment word) workers) (Fetch wid queues) moment word Nil front
+    front numbers
+none_fetched kept workers wid queues moment word front numbers not none has =
+    let up = with_workers (brought_up kept moment word) workers in
+    done kept up wid queues moment word Nil front front numbers not
+    (none_handed up moment wid (first_waiting up.kept queues) front numbers none has)
+
+-- ---- a worker that is held back
+
+held_none : (up : State) (moment : ℕ) (wid : List ℕ) (found : Option (ℕ × Row)) (held : Bool) (front : List Move)
+    (numbers : Numbers) → held ≡ true → AreNumbersOf up.kept numbers
+    → IsHanded up moment wid (if held then None else found) Nil front front numbers
+held_none up moment wid found true front numbers is has =
+    none_handed up moment wid None front numbers refl has
+held_none up moment wid found false front numbers is has = absurd (cc)
+
+pub held_fetched : (before : KeptState) (up : State) (wid : List ℕ) (queues : List (List ℕ)) (moment word : ℕ)
+    (front : List Move) (numbers : Numbers) → is_held_back up.workers wid ≡ true → AreNumbersOf up.kept numbers
+    → IsDone before up (Fetch wid queues) moment word Nil front front numbers
+held_fetched before up wid queues moment word front numbers held has =
+    handed_done before up wid queues moment word Nil front front numbers
+    (held_none up moment wid (first_waiting up.kept queues) (is_held_back up.workers wid) front numbers held has)
 
 -- ---- the row as it is handed out
 
@@ -148,17 +181,17 @@ same_job kept moment word filed well first =
       | inr has ↦ entered_same kept moment (ticket_of filed) (row_of filed) has
     ]
 
-one_handed : (kept : KeptState) (queues : List (List ℕ)) (moment word : ℕ) (wid : List ℕ) (ticket : ℕ) (row : Row)
-    (found : Option (ℕ × Row)) (front : List Move) (numbers : Numbers) → IsWellKept kept
+one_handed : (kept : KeptState) (workers : List Worker) (queues : List (List ℕ)) (moment word : ℕ) (wid : List ℕ)
+    (ticket : ℕ) (row : Row) (found : Option (ℕ × Row)) (front : List Move) (numbers : Numbers) → IsWellKept kept
     → first_waiting (brought_up kept moment word) queues ≡ found
     → Some ticket ≡ option_map ticket_of found → Some row ≡ row_at kept.rows ticket
     → AreNumbersOf (brought_up kept moment word) numbers
-    → IsHanded (brought_up kept moment word) moment wid found
+    → IsHanded (with_workers (brought_up kept moment word) workers) moment wid found
     (Bulk (row_text row.job (stamp_in_queue moment row))) front
     (front ++ Put ticket (stamp_in_queue moment row).enqueued (stamp_in_queue moment row).failure
     (Working wid moment (later_by (second_length * row.job.reserve_for) moment)) ∷ []) numbers
-one_handed kept queues moment word wid ticket row None front numbers well at one here has = absurd (cc)
-one_handed kept queues moment word wid ticket row (Some filed) front numbers well at one here has =
+one_handed kept workers queues moment word wid ticket row None front numbers well at one here has = absurd (cc)
+one_handed kept workers queues moment word wid ticket row (Some filed) front numbers well at one here has =
     let first = first_waiting_is (brought_up kept moment word) queues filed
     (up_orderly kept moment word well).by_ticket at in
     let is = same_job kept moment word filed well first in
@@ -171,22 +204,23 @@ one_handed kept queues moment word wid ticket row (Some filed) front numbers wel
     }
 
 -- the row of a ticket is handed out
-pub one_fetched : (kept : KeptState) (wid : List ℕ) (queues : List (List ℕ)) (moment word ticket : ℕ)
-    (row : Row) (front : List Move) (numbers : Numbers) → IsWellKept kept
+pub one_fetched : (kept : KeptState) (workers : List Worker) (wid : List ℕ) (queues : List (List ℕ))
+    (moment word ticket : ℕ) (row : Row) (front : List Move) (numbers : Numbers)
+    → is_held_back workers wid ≡ false → IsWellKept kept
     → Some ticket ≡ option_map ticket_of (first_waiting (brought_up kept moment word) queues)
     → Some row ≡ row_at kept.rows ticket → AreNumbersOf (brought_up kept moment word) numbers
-    → IsDone kept (brought_up kept moment word) (Fetch wid queues) moment word
+    → IsDone kept (with_workers (brought_up kept moment word) workers) (Fetch wid queues) moment word
     (Bulk (row_text row.job (stamp_in_queue moment row))) front
     (front ++ Put ticket (stamp_in_queue moment row).enqueued (stamp_in_queue moment row).failure
     (Working wid moment (later_by (second_length * row.job.reserve_for) moment)) ∷ []) numbers
-one_fetched kept wid queues moment word ticket row front numbers well one here has =
-    let up = brought_up kept moment word in
+one_fetched kept workers wid queues moment word ticket row front numbers not well one here has =
+    let up = with_workers (brought_up kept moment word) workers in
     let stamp = stamp_in_queue moment row in
     done kept up wid queues moment word (Bulk (row_text row.job stamp)) front
     (front ++ Put ticket stamp.enqueued stamp.failure
-    (Working wid moment (later_by (second_length * row.job.reserve_for) moment)) ∷ []) numbers
-    (one_handed kept queues moment word wid ticket row (first_waiting up queues) front numbers well refl one here
-    has)
+    (Working wid moment (later_by (second_length * row.job.reserve_for) moment)) ∷ []) numbers not
+    (one_handed kept workers queues moment word wid ticket row (first_waiting up.kept queues) front numbers well
+    refl one here has)
 
 no_row : (kept : KeptState) (queues : List (List ℕ)) (moment word ticket : ℕ) (found : Option (ℕ × Row))
     → IsWellKept kept → first_waiting (brought_up kept moment word) queues ≡ found

@@ -1,5 +1,5 @@
 -- What is planned: the moves by which the state is brought up to date, those of the request, and the numbers last.
-use Rattle.std.proofs.Common.{◌≡◌, ◌∙◌, sym, ap, refl, ℕ, ◌+◌, ◌^◌, ◌<◌, ◌≤◌, List, ◌++◌, length, arith}
+use Rattle.std.proofs.Common.{◌≡◌, ◌∙◌, sym, ap, refl, subst, ℕ, ◌+◌, ◌^◌, ◌<◌, ◌≤◌, List, ◌++◌, length, arith}
 use Rattle.std.proofs.lemmas.List.{append-nil}
 use Rattle.fk_frame.specs.declared.reply.Reply.{Reply}
 use Rattle.fk_job.specs.declared.job.Job.{Job}
@@ -7,16 +7,16 @@ use Rattle.fk_model.specs.declared.ask.Ask.{Ask}
 use Rattle.fk_model.specs.declared.ask.Ask.TheVariants.{Push, PushBatch, Fetch, Ack, Fail}
 use Rattle.fk_model.specs.declared.move_.Move.{Move}
 use Rattle.fk_model.specs.Limits.{greatest_next}
-use Rattle.fk_model.specs.State.{KeptState, without_workers}
+use Rattle.fk_model.specs.State.{KeptState, State}
 use Rattle.fk_model.specs.Between.{IsWellKept}
 use Rattle.fk_model.specs.Due.{IsUpToDate}
 use Rattle.fk_model.specs.Bringing.{brought_up, moves_up}
-use Rattle.fk_model.specs.Said.{said, not_served}
-use Rattle.fk_model.specs.Turns.{closed, turn, moves_of}
+use Rattle.fk_model.specs.Said.{said}
+use Rattle.fk_model.specs.Turns.{closed, moves_of, turn, up_to_date}
 use Rattle.fk_plan.specs.declared.numbers.Numbers.{Numbers}
 use Rattle.fk_plan.specs.declared.bringing.BroughtUp.{BroughtUp}
 use Rattle.fk_plan.specs.Upkeep.{IsBroughtUp}
-use Rattle.fk_plan.specs.Plans.{IsPlan, AreNumbersOf, IsDone}
+use Rattle.fk_plan.specs.Plans.{left_of, IsPlan, AreNumbersOf, IsDone}
 use Rattle.fk_plan.proofs.DueNumbers.{up_next_pairs, few_due}
 use Rattle.fk_plan.proofs.NothingDue.{no_moves}
 
@@ -26,27 +26,43 @@ pub numbers_up : (kept : KeptState) (moment word : ℕ) (up : BroughtUp) → IsB
 numbers_up kept moment word up is =
     record { next = is.next; processed = is.processed; failures = is.failures }
 
--- a request that isn't served yet
-pub none_done : (before up : KeptState) (ask : Ask) (moment word : ℕ) (front : List Move) (numbers : Numbers)
-    → ((job : Job) → ask ≡ Push job → ⊥)
+is_left : (ask : Ask) → ((job : Job) → ask ≡ Push job → ⊥)
     → ((jobs : List Job) (told : List ℕ) → ask ≡ PushBatch jobs told → ⊥)
     → ((wid : List ℕ) (queues : List (List ℕ)) → ask ≡ Fetch wid queues → ⊥)
     → ((jid : List ℕ) → ask ≡ Ack jid → ⊥)
     → ((jid errtype message : List ℕ) (backtrace : List (List ℕ)) → ask ≡ Fail jid errtype message backtrace → ⊥)
-    → AreNumbersOf up numbers → IsDone before up ask moment word not_served front front numbers
-unfolding said moves_of
-none_done before up (Push job) moment word front numbers push batch fetch ack fail has =
-    absurd (push job refl)
-none_done before up (PushBatch jobs told) moment word front numbers push batch fetch ack fail has =
-    absurd (batch jobs told refl)
-none_done before up (Fetch wid queues) moment word front numbers push batch fetch ack fail has =
-    absurd (fetch wid queues refl)
-none_done before up (Ack jid) moment word front numbers push batch fetch ack fail has =
-    absurd (ack jid refl)
-none_done before up (Fail jid errtype message backtrace) moment word front numbers push batch fetch ack fail has =
+    → left_of ask ≡ ask
+is_left (Push job) push batch fetch ack fail = absurd (push job refl)
+is_left (PushBatch jobs told) push batch fetch ack fail = absurd (batch jobs told refl)
+is_left (Fetch wid queues) push batch fetch ack fail = absurd (fetch wid queues refl)
+is_left (Ack jid) push batch fetch ack fail = absurd (ack jid refl)
+is_left (Fail jid errtype message backtrace) push batch fetch ack fail =
     absurd (fail jid errtype message backtrace refl)
-none_done before up other moment word front numbers push batch fetch ack fail has =
-    record { answer = refl; made = sym (append-nil front); counted = has }
+is_left other push batch fetch ack fail = refl
+
+-- an ask that says nothing of jobs is what is left of it
+pub all_left : (ask other : Ask) → other ≡ ask → ((job : Job) → other ≡ Push job → ⊥)
+    → ((jobs : List Job) (told : List ℕ) → other ≡ PushBatch jobs told → ⊥)
+    → ((wid : List ℕ) (queues : List (List ℕ)) → other ≡ Fetch wid queues → ⊥)
+    → ((jid : List ℕ) → other ≡ Ack jid → ⊥)
+    → ((jid errtype message : List ℕ) (backtrace : List (List ℕ)) → other ≡ Fail jid errtype message backtrace → ⊥)
+    → left_of ask ≡ ask
+all_left ask other same push batch fetch ack fail =
+    subst (λ (one : Ask). left_of one ≡ one) same (is_left other push batch fetch ack fail)
+
+-- such an ask changes nothing that is kept
+pub attended : (before : KeptState) (up : State) (ask : Ask) (moment word : ℕ) (reply : Reply) (front : List Move)
+    (numbers : Numbers) → left_of ask ≡ ask → reply ≡ (said up ask moment word).reply
+    → AreNumbersOf up.kept numbers → IsDone before up ask moment word reply front front numbers
+unfolding said moves_of
+attended before up (Push job) moment word reply front numbers left is has = absurd (cc left)
+attended before up (PushBatch jobs told) moment word reply front numbers left is has = absurd (cc left)
+attended before up (Fetch wid queues) moment word reply front numbers left is has = absurd (cc left)
+attended before up (Ack jid) moment word reply front numbers left is has = absurd (cc left)
+attended before up (Fail jid errtype message backtrace) moment word reply front numbers left is has =
+    absurd (cc left)
+attended before up other moment word reply front numbers left is has =
+    record { answer = is; made = sym (append-nil front); counted = has }
 
 -- the pairs that are due and the numbers up to the next one, which are below its bound
 pub few_pairs : (kept : KeptState) (moment word : ℕ) (up : BroughtUp) → IsWellKept kept
@@ -66,16 +82,16 @@ next_within kept moment word well within =
     omega (arith, next, few, within)
 
 -- the numbers are told where there is any move
-pub planned : (kept : KeptState) (ask : Ask) (moment word : ℕ) (reply : Reply) (front moves all : List Move)
-    (numbers : Numbers) → front ≡ moves_up kept moment word
-    → IsDone kept (brought_up kept moment word) ask moment word reply front moves numbers
-    → ((state : KeptState) → AreNumbersOf state numbers → all ≡ closed moves state)
-    → IsPlan kept ask moment word reply all
-planned kept ask moment word reply front moves all numbers first is told = record {
+pub planned : (state : State) (ask : Ask) (moment word : ℕ) (reply : Reply) (front moves all : List Move)
+    (numbers : Numbers) → front ≡ moves_up state.kept moment word
+    → IsDone state.kept (up_to_date state moment word) ask moment word reply front moves numbers
+    → ((kept : KeptState) → AreNumbersOf kept numbers → all ≡ closed moves kept)
+    → IsPlan state ask moment word reply all
+planned state ask moment word reply front moves all numbers first is told = record {
   said = is.answer;
-  made = told (turn (without_workers kept) ask moment word).state.kept is.counted
-      ∙ ap (λ xs. closed xs (turn (without_workers kept) ask moment word).state.kept)
-      (is.made ∙ ap (λ xs. xs ++ moves_of kept (without_workers (brought_up kept moment word)) ask moment word) first);
+  made = told (turn state ask moment word).state.kept is.counted
+      ∙ ap (λ xs. closed xs (turn state ask moment word).state.kept)
+      (is.made ∙ ap (λ xs. xs ++ moves_of state.kept (up_to_date state moment word) ask moment word) first);
 }
 
 -- where nothing is due, bringing up takes none of the room

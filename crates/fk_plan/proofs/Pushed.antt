@@ -5,7 +5,7 @@ use Rattle.fk_job.specs.declared.job.Job.{Job}
 use Rattle.fk_model.specs.declared.ask.Ask.TheVariants.{Push, PushBatch}
 use Rattle.fk_model.specs.declared.move_.Move.{Move}
 use Rattle.fk_model.specs.declared.move_.Move.TheVariants.{Add}
-use Rattle.fk_model.specs.State.{KeptState}
+use Rattle.fk_model.specs.State.{KeptState, State}
 use Rattle.fk_model.specs.Requests.{pushed, pushed_row, all_pushed}
 use Rattle.fk_model.specs.Said.{ok, said}
 use Rattle.fk_model.specs.Turns.{moves_of, moves_of_push}
@@ -13,8 +13,8 @@ use Rattle.fk_plan.specs.declared.numbers.Numbers.{Numbers}
 use Rattle.fk_plan.specs.Plans.{AreNumbersOf, IsDone}
 
 -- one job
-pub push_done : (before up : KeptState) (job : Job) (moment word : ℕ) (front : List Move) (numbers : Numbers)
-    → AreNumbersOf up numbers
+pub push_done : (before : KeptState) (up : State) (job : Job) (moment word : ℕ) (front : List Move) (numbers : Numbers)
+    → AreNumbersOf up.kept numbers
     → IsDone before up (Push job) moment word ok front
     (front ++ Add numbers.next (pushed_row moment numbers.next job) ∷ [])
     (record numbers { next = numbers.next + 1 })
@@ -39,8 +39,8 @@ numbers_behind moment (job ∷ jobs) up numbers has =
     (record { next = ap (λ n. n + 1) has.next; processed = has.processed; failures = has.failures }) in
     record { next = omega (arith, rest.next); processed = rest.processed; failures = rest.failures }
 
-pub batch_done : (before up : KeptState) (jobs : List Job) (text : List ℕ) (moment word : ℕ) (front : List Move)
-    (numbers : Numbers) → AreNumbersOf up numbers
+pub batch_done : (before : KeptState) (up : State) (jobs : List Job) (text : List ℕ) (moment word : ℕ) (front : List Move)
+    (numbers : Numbers) → AreNumbersOf up.kept numbers
     → IsDone before up (PushBatch jobs text) moment word (Bulk text) front
     (front ++ moves_of_push moment numbers.next jobs)
     (record numbers { next = numbers.next + length jobs })
@@ -48,5 +48,5 @@ unfolding said moves_of
 batch_done before up jobs text moment word front numbers has = record {
   answer = refl;
   made = rw has.next refl;
-  counted = numbers_behind moment jobs up numbers has;
+  counted = numbers_behind moment jobs up.kept numbers has;
 }

@@ -1,7 +1,8 @@
 // What an acknowledgement does.
-ghost use Rattle.std.specs.Prelude.{◌≡◌, ◌<◌, ◌≤◌, ◌+◌, ℕ, length, IfOk, IsOk};
+ghost use Rattle.std.specs.Prelude.{◌≡◌, ◌<◌, ◌≤◌, ◌+◌, ℕ, List, length, IfOk, IsOk};
 ghost use Rattle.fk_time.specs.Moments.{greatest};
 ghost use Rattle.fk_model.specs.declared.ask.Ask.TheVariants.{Ack};
+ghost use Rattle.fk_model.specs.State.{Worker, with_workers};
 ghost use Rattle.fk_model.specs.Between.{IsWellKept};
 ghost use Rattle.fk_model.specs.Bringing.{brought_up};
 ghost use Rattle.fk_plan.specs.Plans.{AreNumbersOf, IsDone};
@@ -26,9 +27,11 @@ pub(crate) fn acknowledge(
 ) -> Result<Reply, AllocError>
     requires moment { moment < greatest }
     requires kept { IsWellKept tables.now.kept }
-    ensures ok { (word : ℕ) → AreNumbersOf (brought_up tables.now.kept moment word) numbers.old
-        → IfOk result (λ reply. IsDone tables.now.kept (brought_up tables.now.kept moment word)
-        (Ack jid.now) moment word reply moves.old.items moves.new.items numbers.new) }
+    ensures ok { (word : ℕ) (workers : List Worker)
+        → AreNumbersOf (brought_up tables.now.kept moment word) numbers.old
+        → IfOk result (λ reply. IsDone tables.now.kept
+        (with_workers (brought_up tables.now.kept moment word) workers) (Ack jid.now) moment word
+        reply moves.old.items moves.new.items numbers.new) }
     ensures room { moves.old.spare + length moves.old.items
         ≤ length moves.new.items + moves.new.spare }
     ensures one { moves.old.spare ≤ moves.new.spare + 1 }

@@ -1,5 +1,5 @@
 // What a fetch does.
-ghost use Rattle.std.specs.Prelude.{◌≡◌, ◌<◌, ◌≤◌, ◌++◌, ◌+◌, ◌*◌, ◌^◌, ℕ, List, length, option_map, slice_get, IfOk};
+ghost use Rattle.std.specs.Prelude.{◌≡◌, ◌<◌, ◌≤◌, ◌++◌, ◌+◌, ◌*◌, ◌^◌, ℕ, List, false, length, option_map, slice_get, IfOk};
 ghost use Rattle.fk_time.specs.Moments.{greatest};
 ghost use Rattle.fk_job.specs.Fields.{most_reserve};
 ghost use Rattle.fk_model.specs.declared.ask.Ask.TheVariants.{Fetch};
@@ -7,9 +7,11 @@ ghost use Rattle.fk_model.specs.declared.move_.Move.TheVariants.{Put};
 ghost use Rattle.fk_model.specs.declared.place.Place.TheVariants.{Working};
 ghost use Rattle.fk_model.specs.Limits.{later_by, second_length};
 ghost use Rattle.fk_model.specs.Rows.{ticket_of};
+ghost use Rattle.fk_model.specs.State.{Worker, with_workers};
 ghost use Rattle.fk_model.specs.Orders.{first_waiting, queue, ticket_in};
 ghost use Rattle.fk_model.specs.Between.{IsWellKept};
 ghost use Rattle.fk_model.specs.Bringing.{brought_up};
+ghost use Rattle.fk_model.specs.Requests.{is_held_back};
 ghost use Rattle.fk_lists.specs.Room.{list_at};
 ghost use Rattle.fk_plan.specs.declared.numbers.Numbers.{Numbers};
 ghost use Rattle.fk_plan.specs.Arrivals.{stamp_in_queue, HasArrived};
@@ -26,8 +28,8 @@ use fk_queues::Queues;
 use fk_time::GREATEST;
 use std::alloc::{AllocError, Global};
 
-/// A worker, or a producer where the name is empty, wants a job of the first of these queues that has
-/// one, once those that are due were put into them: these are their moments and tickets.
+/// A worker that isn't held back, or a producer where the name is empty, wants a job of the first of
+/// these queues that has one, once those that are due were put into them: these are their moments and tickets.
 pub(crate) fn fetch(
     alloc: Global,
     tables: &Tables,
@@ -41,10 +43,12 @@ pub(crate) fn fetch(
     requires kept { IsWellKept tables.now.kept }
     requires due { pairs.now.items ≡ pairs_due tables.now.kept moment }
     requires next { tables.now.kept.next + length pairs.now.items < 2 ^ 64 }
-    ensures ok { (word : ℕ) (numbers : Numbers)
+    ensures ok { (word : ℕ) (workers : List Worker) (numbers : Numbers)
+        → is_held_back workers wid ≡ false
         → AreNumbersOf (brought_up tables.now.kept moment word) numbers
-        → IfOk result (λ reply. IsDone tables.now.kept (brought_up tables.now.kept moment word)
-        (Fetch wid queues.now) moment word reply moves.old.items moves.new.items numbers) }
+        → IfOk result (λ reply. IsDone tables.now.kept
+        (with_workers (brought_up tables.now.kept moment word) workers) (Fetch wid queues.now) moment
+        word reply moves.old.items moves.new.items numbers) }
     ensures room { moves.old.spare + length moves.old.items
         ≤ length moves.new.items + moves.new.spare }
 {

@@ -3,6 +3,7 @@
 
 mod acknowledging;
 mod arriving;
+mod attending;
 mod bringing;
 mod closing;
 mod enqueuing;
@@ -10,6 +11,7 @@ mod expiring;
 mod failing;
 mod fetching;
 mod forgetting;
+mod holding;
 mod listing;
 mod merging;
 mod numbers;

@@ -1,69 +1,77 @@
 ghost use Rattle.std.specs.Prelude.{◌≡◌, ◌↔◌, ◌<◌, ◌≤◌, ◌+◌, ◌^◌, [], length, true, IfOk, IsOk, OnErr, OnOk};
 ghost use Rattle.fk_time.specs.Moments.{greatest};
 ghost use Rattle.fk_model.specs.Limits.{greatest_next};
-ghost use Rattle.fk_model.specs.State.{without_workers};
+ghost use Rattle.fk_model.specs.State.{with_workers};
 ghost use Rattle.fk_model.specs.Range.{IsInRange};
 ghost use Rattle.fk_model.specs.Between.{IsAboveAll, IsWellKept};
 ghost use Rattle.fk_model.specs.Due.{IsUpToDate};
 ghost use Rattle.fk_model.specs.Changes.{Lead};
 ghost use Rattle.fk_model.specs.Bringing.{brought_up};
-ghost use Rattle.fk_model.specs.Turns.{moves_of_turn, turn};
+ghost use Rattle.fk_model.specs.Turns.{moves_of_turn, turn, up_to_date};
 ghost use Rattle.fk_model.specs.History.{IsOverLimit};
-ghost use Rattle.fk_plan.specs.Plans.{is_ack, IsDone, IsPlan};
+ghost use Rattle.fk_plan.specs.Plans.{is_ack_or_beat, left_of, IsDone, IsPlan};
 ghost use Rattle.fk_plan.specs.Upkeep.{IsBroughtUp};
 
 use crate::acknowledging::acknowledge;
+use crate::attending::attend;
 use crate::bringing::{BroughtUp, bring_up};
 use crate::closing::close;
 use crate::failing::Reason;
-use crate::fetching::fetch;
+use crate::holding::fetch_unless_held;
 use crate::pushing::{push, push_batch};
-use crate::replies::not_served;
 use crate::reporting::report;
 use fk_core::Tables;
 use fk_frame::Reply;
 use fk_model::{Ask, Moves};
+use fk_workers::Workers;
 use std::alloc::{AllocError, Global};
+use std::mem;
 
-/// The plan of a turn, in tables without workers, at a moment in milliseconds since
+/// The plan of a turn, in tables and with workers, at a moment in milliseconds since
 /// 1970-01-01T00:00:00Z and with a random word: what is said to the ask, and the moves from the kept
 /// state to the one that the turn leaves. Where that is the same there is no move. After want of memory
-/// there is no move either.
+/// there is no move either. The workers stay: what a turn makes of them can't fail, and so it is done
+/// last. What the ask says of jobs is moved out of it, so that no text is copied.
 pub fn plan(
     alloc: Global,
     tables: &Tables,
-    ask: Ask,
+    workers: &Workers,
+    ask: &mut Ask,
     moment: u64,
     word: u64,
     moves: &mut Moves,
 ) -> Result<Reply, AllocError>
     requires empty { moves.old.items ≡ [] }
     requires moment { moment < greatest }
-    requires range { IsInRange ask }
+    requires range { IsInRange ask.old }
     requires above { IsAboveAll tables.now.kept.next tables.now.kept.rows }
-    ensures reply { IfOk result (λ reply.
-        reply ≡ (turn (without_workers tables.now.kept) ask moment word).reply) }
-    ensures moves { OnOk result
-        (moves.new.items ≡ moves_of_turn (without_workers tables.now.kept) ask moment word) }
+    ensures reply { IfOk result (λ reply. reply
+        ≡ (turn (with_workers tables.now.kept workers.now.workers) ask.old moment word).reply) }
+    ensures moves { OnOk result (moves.new.items
+        ≡ moves_of_turn (with_workers tables.now.kept workers.now.workers) ask.old moment word) }
 
     // They lead to what the turn leaves, unless that would be over the limit, and there is none exactly
     // where the turn leaves the kept state as it is.
-    ensures leads { OnOk result (¬ IsOverLimit (without_workers tables.now.kept) ask moment word
+    ensures leads { OnOk result
+        (¬ IsOverLimit (with_workers tables.now.kept workers.now.workers) ask.old moment word
         → Lead tables.now.kept moves.new.items
-        (turn (without_workers tables.now.kept) ask moment word).state.kept) }
+        (turn (with_workers tables.now.kept workers.now.workers) ask.old moment word).state.kept) }
     ensures stays { OnOk result ((moves.new.items ≡ [])
-        ↔ ((turn (without_workers tables.now.kept) ask moment word).state.kept
+        ↔ ((turn (with_workers tables.now.kept workers.now.workers) ask.old moment word).state.kept
         ≡ tables.now.kept)) }
 
     ensures none { OnErr result (moves.new.items ≡ []) }
     ensures room { moves.old.spare ≤ length moves.new.items + moves.new.spare }
 
-    // An acknowledgement takes no memory where nothing is due and there is room for its two moves.
-    ensures ready { is_ack ask ≡ true → IsUpToDate moment tables.now.kept → 2 ≤ moves.old.spare
+    // What the workers have to know of the ask is left of it.
+    ensures left { OnOk result (ask.new ≡ left_of ask.old) }
+
+    // An acknowledgement or a beat takes no memory where nothing is due and there is room for two moves.
+    ensures ready { is_ack_or_beat ask.old ≡ true → IsUpToDate moment tables.now.kept → 2 ≤ moves.old.spare
         → IsOk result }
 {
     are_well_kept(tables);
-    match plan_ask(alloc, tables, ask, moment, word, moves) {
+    match plan_ask(alloc, tables, workers, ask, moment, word, moves) {
         Ok(reply) => Ok(reply),
         Err(error) => {
             moves.clear();
@@ -86,24 +94,26 @@ fn are_well_kept(tables: &Tables)
 fn plan_ask(
     alloc: Global,
     tables: &Tables,
-    ask: Ask,
+    workers: &Workers,
+    ask: &mut Ask,
     moment: u64,
     word: u64,
     moves: &mut Moves,
 ) -> Result<Reply, AllocError>
     requires empty { moves.old.items ≡ [] }
     requires moment { moment < greatest }
-    requires range { IsInRange ask }
+    requires range { IsInRange ask.old }
     requires kept { IsWellKept tables.now.kept }
     requires within { tables.now.kept.next ≤ greatest_next }
-    ensures ok { IfOk result (λ reply.
-        IsPlan tables.now.kept ask moment word reply moves.new.items) }
+    ensures ok { IfOk result (λ reply. IsPlan (with_workers tables.now.kept workers.now.workers)
+        ask.old moment word reply moves.new.items) }
+    ensures left { OnOk result (ask.new ≡ left_of ask.old) }
     ensures room { moves.old.spare ≤ length moves.new.items + moves.new.spare }
-    ensures ready { is_ack ask ≡ true → IsUpToDate moment tables.now.kept → 2 ≤ moves.old.spare
+    ensures ready { is_ack_or_beat ask.old ≡ true → IsUpToDate moment tables.now.kept → 2 ≤ moves.old.spare
         → IsOk result }
 {
     let mut up = bring_up(alloc, tables, moment, word, moves)?;
-    let reply = act(alloc, tables, ask, moment, word, &mut up, moves)?;
+    let reply = act(alloc, tables, workers, ask, moment, word, &mut up, moves)?;
     close(up.numbers, moves)?;
     Ok(reply)
 }
@@ -112,31 +122,35 @@ fn plan_ask(
 fn act(
     alloc: Global,
     tables: &Tables,
-    ask: Ask,
+    workers: &Workers,
+    ask: &mut Ask,
     moment: u64,
     word: u64,
     up: &mut BroughtUp,
     moves: &mut Moves,
 ) -> Result<Reply, AllocError>
     requires moment { moment < greatest }
-    requires range { IsInRange ask }
+    requires range { IsInRange ask.old }
     requires kept { IsWellKept tables.now.kept }
     requires up { IsBroughtUp tables.now.kept moment word up.old }
     requires next { (brought_up tables.now.kept moment word).next ≤ 2 ^ 63 }
     ensures ok { IfOk result (λ reply. IsDone tables.now.kept
-        (brought_up tables.now.kept moment word) ask moment word reply moves.old.items
-        moves.new.items up.new.numbers) }
+        (up_to_date (with_workers tables.now.kept workers.now.workers) moment word) ask.old moment
+        word reply moves.old.items moves.new.items up.new.numbers) }
+    ensures left { OnOk result (ask.new ≡ left_of ask.old) }
     ensures room { moves.old.spare + length moves.old.items
         ≤ length moves.new.items + moves.new.spare }
-    ensures one { is_ack ask ≡ true → moves.old.spare ≤ moves.new.spare + 1 }
-    ensures ready { is_ack ask ≡ true → 0 < moves.old.spare → IsOk result }
+    ensures one { is_ack_or_beat ask.old ≡ true → moves.old.spare ≤ moves.new.spare + 1 }
+    ensures ready { is_ack_or_beat ask.old ≡ true → 0 < moves.old.spare → IsOk result }
 {
-    match ask {
+    match mem::replace(ask, Ask::Tick) {
         Ask::Push { job } => push(alloc, job, moment, &mut up.numbers, moves),
         Ask::PushBatch { jobs, told } => {
             push_batch(jobs.into_jobs(), told, moment, &mut up.numbers, moves)
         }
-        Ask::Fetch { wid, queues } => fetch(alloc, tables, wid, &queues, &up.due, moment, moves),
+        Ask::Fetch { wid, queues } => fetch_unless_held(
+            alloc, tables, workers, wid, &queues, &up.due, moment, moves,
+        ),
         Ask::Ack { jid } => acknowledge(alloc, tables, &jid, moment, &mut up.numbers, moves),
         Ask::Fail {
             jid,
@@ -160,6 +174,9 @@ fn act(
                 moves,
             )
         }
-        _ => Ok(not_served(alloc)),
+        other => {
+            *ask = other;
+            Ok(attend(alloc, workers, ask, moment))
+        }
     }
 }

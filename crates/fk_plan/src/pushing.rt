@@ -2,7 +2,7 @@
 ghost use Rattle.std.specs.Prelude.{◌≡◌, ◌<◌, ◌≤◌, ◌∷◌, ◌++◌, ◌+◌, ◌^◌, ℕ, [], length, IfOk, OnOk};
 ghost use Rattle.fk_model.specs.declared.ask.Ask.TheVariants.{Push, PushBatch};
 ghost use Rattle.fk_model.specs.declared.move_.Move.TheVariants.{Add};
-ghost use Rattle.fk_model.specs.State.{KeptState};
+ghost use Rattle.fk_model.specs.State.{KeptState, State};
 ghost use Rattle.fk_model.specs.Requests.{is_later, pushed_row};
 ghost use Rattle.fk_model.specs.Turns.{moves_of_push};
 ghost use Rattle.fk_plan.specs.Plans.{AreNumbersOf, IsDone};
@@ -24,7 +24,7 @@ pub(crate) fn push(
     moves: &mut Moves,
 ) -> Result<Reply, AllocError>
     requires { numbers.old.next ≤ 2 ^ 63 }
-    ensures ok { (before up : KeptState) (word : ℕ) → AreNumbersOf up numbers.old
+    ensures ok { (before : KeptState) (up : State) (word : ℕ) → AreNumbersOf up.kept numbers.old
         → IfOk result (λ reply. IsDone before up (Push job) moment word reply moves.old.items
         moves.new.items numbers.new) }
     ensures room { moves.old.spare + length moves.old.items
@@ -44,7 +44,7 @@ pub(crate) fn push_batch(
 ) -> Result<Reply, AllocError>
     requires next { numbers.old.next ≤ 2 ^ 63 }
     requires short { length jobs.items < 2 ^ 32 }
-    ensures ok { (before up : KeptState) (word : ℕ) → AreNumbersOf up numbers.old
+    ensures ok { (before : KeptState) (up : State) (word : ℕ) → AreNumbersOf up.kept numbers.old
         → IfOk result (λ reply. IsDone before up (PushBatch jobs.items told) moment word reply
         moves.old.items moves.new.items numbers.new) }
     ensures room { moves.old.spare + length moves.old.items

@@ -1,7 +1,8 @@
 // What the report of a failure does.
-ghost use Rattle.std.specs.Prelude.{◌≡◌, ◌<◌, ◌≤◌, ◌+◌, ℕ, length, IfOk};
+ghost use Rattle.std.specs.Prelude.{◌≡◌, ◌<◌, ◌≤◌, ◌+◌, List, length, IfOk};
 ghost use Rattle.fk_time.specs.Moments.{greatest};
 ghost use Rattle.fk_model.specs.declared.ask.Ask.TheVariants.{Fail};
+ghost use Rattle.fk_model.specs.State.{Worker, with_workers};
 ghost use Rattle.fk_model.specs.Between.{IsWellKept};
 ghost use Rattle.fk_model.specs.Bringing.{brought_up};
 ghost use Rattle.fk_plan.specs.Plans.{AreNumbersOf, IsDone};
@@ -29,8 +30,10 @@ pub(crate) fn report(
 ) -> Result<Reply, AllocError>
     requires moment { moment < greatest }
     requires kept { IsWellKept tables.now.kept }
-    ensures ok { AreNumbersOf (brought_up tables.now.kept moment word) numbers.old
-        → IfOk result (λ reply. IsDone tables.now.kept (brought_up tables.now.kept moment word)
+    ensures ok { (workers : List Worker)
+        → AreNumbersOf (brought_up tables.now.kept moment word) numbers.old
+        → IfOk result (λ reply. IsDone tables.now.kept
+        (with_workers (brought_up tables.now.kept moment word) workers)
         (Fail jid.now reason.errtype reason.message reason.backtrace) moment word reply
         moves.old.items moves.new.items numbers.new) }
     ensures room { moves.old.spare + length moves.old.items

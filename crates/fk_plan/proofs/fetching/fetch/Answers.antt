@@ -2,13 +2,13 @@ use Rattle.fk_plan.proofs.Fetched.{none_fetched, one_fetched, row_has_bound, row
 use Rattle.fk_plan.proofs.fetching.fetch.Goals as goal
 
 pub returns-in_default-clause-ok : goal.returns-in_default-clause-ok
-returns-in_default-clause-ok c = λ word numbers has.
-    none_fetched c.args.tables.now.kept c.args.wid c.args.queues.now c.args.moment word
-    c.args.moves.now.items numbers (c.in_default.ensures word) has
+returns-in_default-clause-ok c = λ word workers numbers not has.
+    none_fetched c.args.tables.now.kept workers c.args.wid c.args.queues.now c.args.moment word
+    c.args.moves.now.items numbers not (c.in_default.ensures word) has
 
 -- the row of the first ticket is there
 pub returns-in_default-row-clause-ok : goal.returns-in_default-row-clause-ok
-returns-in_default-row-clause-ok c = λ word numbers has.
+returns-in_default-row-clause-ok c = λ word workers numbers not has.
     absurd (row_stands c.args.tables.now.kept c.args.queues.now c.args.moment word c.in-Some.ticket
     c.requires.kept (c.in-Some.ensures word) c.in_default-row.ensures)
 
@@ -24,8 +24,8 @@ hand_out-requires-clause-seconds c =
     c.in-Some-row.ensures
 
 pub returns-clause-ok : goal.returns-clause-ok
-returns-clause-ok c = λ word numbers has.
+returns-clause-ok c = λ word workers numbers not has.
     rw (c.in_ok-text.ensures, c.in_ok-push.ensures.ok, c.hand_out.ensures, c.in_ok-stamp.ensures)
-    (one_fetched c.args.tables.now.kept c.args.wid c.args.queues.now c.args.moment word c.in-Some.ticket
-    c.in-Some-row.row.now c.args.moves.now.items numbers c.requires.kept (c.in-Some.ensures word)
+    (one_fetched c.args.tables.now.kept workers c.args.wid c.args.queues.now c.args.moment word c.in-Some.ticket
+    c.in-Some-row.row.now c.args.moves.now.items numbers not c.requires.kept (c.in-Some.ensures word)
     c.in-Some-row.ensures has)

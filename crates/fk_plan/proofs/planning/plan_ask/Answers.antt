@@ -1,5 +1,6 @@
 use Rattle.std.proofs.Common.{arith}
 use Rattle.std.proofs.lemmas.Bool.{false≢true}
+use Rattle.fk_model.specs.State.{with_workers}
 use Rattle.fk_plan.proofs.Planned.{next_within, planned, room_stays}
 use Rattle.fk_plan.proofs.planning.plan_ask.Goals as goal
 
@@ -22,6 +23,6 @@ returns-in_err-close-clause-ready c = λ ack on two.
 
 pub returns-clause-ok : goal.returns-clause-ok
 returns-clause-ok c =
-    planned c.args.tables.now.kept c.args.ask c.args.moment c.args.word c.in_ok-reply.reply
+    planned (with_workers c.args.tables.now.kept c.args.workers.now.workers) c.args.ask.now c.args.moment c.args.word c.in_ok-reply.reply
     c.bring_up.new.moves.items c.act.new.moves.items c.close.new.moves.items c.act.new.up.numbers
     c.in_ok-up.ensures.moves c.in_ok-reply.ensures.ok (λ state. c.in_ok-close.ensures.ok state)

@@ -2,9 +2,9 @@ use Rattle.fk_plan.proofs.Reported.{none_reported, one_reported, row_held}
 use Rattle.fk_plan.proofs.reporting.report.Goals as goal
 
 pub returns-in_default-clause-ok : goal.returns-in_default-clause-ok
-returns-in_default-clause-ok c = λ has.
+returns-in_default-clause-ok c = λ workers has.
     rw c.unknown_job.ensures
-    (none_reported c.args.tables.now.kept c.args.jid.now c.args.reason c.args.moment c.args.word
+    (none_reported c.args.tables.now.kept workers c.args.jid.now c.args.reason c.args.moment c.args.word
     c.args.moves.now.items c.args.numbers.now c.requires.kept c.requires.moment c.in_default.ensures has)
 
 -- the row of the ticket is there
@@ -14,7 +14,7 @@ returns-in_default-row-clause-ok c =
     c.in-Some.ensures c.in_default-row.ensures)
 
 pub returns-clause-ok : goal.returns-clause-ok
-returns-clause-ok c = λ has.
+returns-clause-ok c = λ workers has.
     rw (
       c.ok.ensures,
       c.in_ok-push.ensures.ok,
@@ -22,6 +22,6 @@ returns-clause-ok c = λ has.
       c.saturating_add-numbers.ensures,
       c.saturating_add-numbers-2.ensures,
     )
-    (one_reported c.args.tables.now.kept c.args.jid.now c.args.reason c.args.moment c.args.word
+    (one_reported c.args.tables.now.kept workers c.args.jid.now c.args.reason c.args.moment c.args.word
     c.in-Some.ticket c.in-Some-row.row.now c.args.moves.now.items c.args.numbers.now c.requires.kept
     c.requires.moment c.in-Some.ensures c.in-Some-row.ensures has)
