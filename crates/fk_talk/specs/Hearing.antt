@@ -1,7 +1,6 @@
 -- What one line does to a talk that has come so far.
 use Rattle.std.specs.Prelude.{◌≡◌, ℕ, List, [], codes, if◌then◌else◌, Option, None, Some, IfSome, option_to_list, unwrap_or}
 use Rattle.fk_frame.specs.declared.line_reader.Line.{Line}
-use Rattle.fk_frame.specs.Replies.{IsWellFormed}
 use Rattle.fk_job.specs.Spellings.{IsText}
 use Rattle.fk_model.specs.declared.gate.Gate.{Gate}
 use Rattle.fk_model.specs.declared.item.Item.{Item}
@@ -67,17 +66,17 @@ HasTextAsWid Nobody = Unit {0}
 HasTextAsWid (Somebody wid) = IsText wid
 HasTextAsWid Over = Unit {0}
 
--- a reply of its own can be written, and a turn may be made of an ask
-abbrev pub IsInForm : Item → Type 0
-IsInForm (Own reply) = IsWellFormed reply
-IsInForm (Asks ask) = IsInRange ask
+-- a turn may be made of the item's ask, if it has one
+abbrev pub IsAskable : Item → Type 0
+IsAskable (Own reply) = Unit {0}
+IsAskable (Asks ask) = IsInRange ask
 
 -- what was heard is what a line does to a talk that has come so far
 pub record Does (gate : Gate) (standing : Standing) (line : Line) (heard : Heard) : Type 0 where
   pub items : AreHeard gate standing line (option_to_list heard.item)
   pub comes : unwrap_or heard.standing standing ≡ standing_after gate standing line
 
--- what was heard can be answered
+-- a turn may be made of what was heard, and who speaks has a text as its name
 pub record IsHeardWell (heard : Heard) : Type 0 where
-  pub item : IfSome heard.item IsInForm
+  pub item : IfSome heard.item IsAskable
   pub standing : IfSome heard.standing HasTextAsWid

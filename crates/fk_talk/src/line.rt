@@ -3,14 +3,13 @@ ghost use Rattle.std.specs.Prelude.{◌≡◌, ◌≤◌, codes, length, IfOk, N
 ghost use Rattle.fk_frame.specs.declared.line_reader.Line.TheVariants.{Whole};
 ghost use Rattle.fk_frame.specs.declared.reply.Reply.TheVariants.{Error};
 ghost use Rattle.fk_frame.specs.Lines.{longest_line};
-ghost use Rattle.fk_frame.specs.Replies.{IsOneLine, IsWellFormed};
 ghost use Rattle.fk_job.specs.Spellings.{IsText};
 ghost use Rattle.fk_model.specs.declared.gate.Gate.{Gate as AGate};
 ghost use Rattle.fk_model.specs.declared.item.Item.TheVariants.{Own};
 ghost use Rattle.fk_model.specs.Handshake.{let_in};
 ghost use Rattle.fk_model.specs.Script.{hello_item};
 ghost use Rattle.fk_talk.specs.declared.standing.Standing.TheVariants.{Nobody, Over, Somebody};
-ghost use Rattle.fk_talk.specs.Hearing.{Does, HasTextAsWid, IsHeardWell, IsInForm, IsLetIn, standing_by, welcomed};
+ghost use Rattle.fk_talk.specs.Hearing.{Does, HasTextAsWid, IsAskable, IsHeardWell, IsLetIn, standing_by, welcomed};
 
 use crate::hello::{Welcome, read_hello};
 use crate::standing::Standing;
@@ -39,7 +38,7 @@ pub(crate) fn hear(
     requires wid { HasTextAsWid standing.now }
     requires fits { length line.now ≤ longest_line }
     ensures does { IfOk result (λ heard. Does gate.now standing.now (Whole line.now) heard) }
-    ensures form { IfOk result IsHeardWell }
+    ensures range { IfOk result IsHeardWell }
 {
     match standing {
         Standing::Nobody => before_hello(alloc, gate, line),
@@ -55,7 +54,7 @@ pub(crate) fn hear(
 fn before_hello(alloc: Global, gate: &Gate, line: &[u8]) -> Result<Heard, AllocError>
     requires { 1 ≤ gate.now.rounds }
     ensures does { IfOk result (λ heard. Does gate.now Nobody (Whole line.now) heard) }
-    ensures form { IfOk result IsHeardWell }
+    ensures range { IfOk result IsHeardWell }
 {
     match command_in(line) {
         Verb::End => Ok(ending(None)),
@@ -69,7 +68,7 @@ fn greet(alloc: Global, told: Welcome) -> Result<Heard, AllocError>
     requires { IsLetIn told }
     ensures item { IfOk result (λ heard. heard.item ≡ Some (hello_item (welcomed told))) }
     ensures comes { IfOk result (λ heard. heard.standing ≡ Some (standing_by (welcomed told))) }
-    ensures form { IfOk result IsHeardWell }
+    ensures range { IfOk result IsHeardWell }
 {
     match told {
         Welcome::TurnedAway(refusal) => Ok(ending(Some(refuse(alloc, refusal.text())))),
@@ -84,7 +83,7 @@ fn greet(alloc: Global, told: Welcome) -> Result<Heard, AllocError>
 fn accept(alloc: Global, wid: &Text) -> Result<Item, AllocError>
     requires { IsText wid.now }
     ensures item { IfOk result (λ item. item ≡ hello_item (let_in wid.now)) }
-    ensures form { IfOk result IsInForm }
+    ensures range { IfOk result IsAskable }
 {
     if wid.is_empty() {
         Ok(Item::Own(Reply::Status(Text::fixed(alloc, b"OK"))))
@@ -99,7 +98,7 @@ fn behind_hello(alloc: Global, wid: &Text, line: &[u8]) -> Result<Heard, AllocEr
     requires fits { length line.now ≤ longest_line }
     ensures does { IfOk result (λ heard. (gate : AGate)
         → Does gate (Somebody wid.now) (Whole line.now) heard) }
-    ensures form { IfOk result IsHeardWell }
+    ensures range { IfOk result IsHeardWell }
 {
     match read_command(alloc, line, wid)? {
         Command::Ask(ask) => Ok(staying(Item::Asks(ask))),
@@ -132,17 +131,14 @@ fn staying(item: Item) -> Heard
 
 /// What a line gives that is too long.
 pub(crate) fn long_line(alloc: Global) -> Reply
-    ensures is { result ≡ Error (codes "ERR Line too long") }
-    ensures form { IsWellFormed result }
+    ensures { result ≡ Error (codes "ERR Line too long") }
 {
     Reply::Error(Text::fixed(alloc, b"ERR Line too long"))
 }
 
 /// An error reply.
 fn refuse(alloc: Global, text: &'static [u8]) -> Item
-    requires { IsOneLine text.now }
-    ensures item { result ≡ Own (Error text.now) }
-    ensures form { IsInForm result }
+    ensures { result ≡ Own (Error text.now) }
 {
     Item::Own(Reply::Error(Text::fixed(alloc, text)))
 }

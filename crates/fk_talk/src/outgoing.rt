@@ -1,11 +1,12 @@
-ghost use Rattle.std.specs.Prelude.{◌≡◌, ◌≤◌, ◌++◌, [], codes, length, drop, IfOk, OnErr, OnOk};
+ghost use Rattle.std.specs.Prelude.{◌≡◌, ◌≤◌, ◌++◌, [], codes, length, drop, take, IfOk, OnErr, OnOk};
 ghost use Rattle.std.specs.Fmt.{decimal};
-ghost use Rattle.fk_frame.specs.Replies.{reply_bytes, IsWellFormed};
-ghost use Rattle.fk_model.specs.Answers.{answer_bytes, reply_of};
+ghost use Rattle.fk_frame.specs.Bytes.{line_end};
+ghost use Rattle.fk_frame.specs.Replies.{reply_bytes};
+ghost use Rattle.fk_model.specs.Answers.{answer_bytes};
 ghost use Rattle.fk_model.specs.Handshake as spec;
 
 use crate::password::salt_text;
-use fk_frame::{Reply, write_reply};
+use fk_frame::Reply;
 use fk_model::{Answer, Gate};
 use std::alloc::{AllocError, Global};
 use std::marker::Model;
@@ -58,17 +59,37 @@ impl Outgoing {
 
     /// Adds a reply at the end, or leaves all as it is.
     pub(crate) fn put_reply(&mut self, reply: &Reply) -> Result<(), AllocError>
-        requires { IsWellFormed reply.now }
         ensures ok { OnOk result (self.new ≡ self.old ++ reply_bytes reply.now) }
         ensures err { OnErr result (self.new ≡ self.old) }
     {
-        let bytes = write_reply(*self.buffer.allocator(), reply)?;
-        self.put(bytes.bytes())
+        match reply {
+            Reply::Status(text) => self.put_line(b"+", text.bytes()),
+            Reply::Error(text) => self.put_line(b"-", text.bytes()),
+            Reply::Bulk(text) => {
+                let head = format!(in *self.buffer.allocator(); "${}\r\n", text.len())?;
+                self.put_line(head.as_bytes(), text.bytes())
+            }
+            Reply::Nil => self.put(b"$-1\r\n"),
+        }
+    }
+
+    /// Adds a text between its head and CR LF at the end, or leaves all as it is.
+    fn put_line(&mut self, head: &[u8], text: &[u8]) -> Result<(), AllocError>
+        ensures ok { OnOk result (self.new ≡ self.old ++ head.now ++ text.now ++ line_end) }
+        ensures err { OnErr result (self.new ≡ self.old) }
+    {
+        let before = self.buffer.len();
+        match add_line(&mut self.buffer, head, text) {
+            Ok(()) => Ok(()),
+            Err(error) => {
+                self.buffer.truncate(before);
+                Err(error)
+            }
+        }
     }
 
     /// Adds the reply of an answer at the end, or leaves all as it is.
     pub(crate) fn put_answer(&mut self, answer: &Answer) -> Result<(), AllocError>
-        requires { IsWellFormed (reply_of answer.now) }
         ensures ok { OnOk result (self.new ≡ self.old ++ answer_bytes answer.now) }
         ensures err { OnErr result (self.new ≡ self.old) }
     {
@@ -93,6 +114,18 @@ impl Outgoing {
             self.from = 0;
         }
     }
+}
+
+/// Adds a text between its head and CR LF at the end, or where memory runs out a part of that.
+fn add_line(buffer: &mut Vec<u8>, head: &[u8], text: &[u8]) -> Result<(), AllocError>
+    ensures ok { OnOk result
+        (buffer.new.items ≡ buffer.old.items ++ head.now ++ text.now ++ line_end) }
+    ensures err { OnErr result
+        (take (length buffer.old.items) buffer.new.items ≡ buffer.old.items) }
+{
+    buffer.extend_from_slice(head)?;
+    buffer.extend_from_slice(text)?;
+    buffer.extend_from_slice(b"\r\n")
 }
 
 /// The greeting, to be sent: it tells the rounds and the salt where a password is set.

@@ -6,7 +6,7 @@ ghost use Rattle.fk_model.specs.Answers.{reply_of};
 ghost use Rattle.fk_model.specs.Range.{IsInRange};
 ghost use Rattle.fk_talk.specs.declared.standing.Standing.TheVariants as standing;
 ghost use Rattle.fk_talk.specs.declared.turn.Turn.TheVariants as turn;
-ghost use Rattle.fk_talk.specs.Hearing.{IsInForm};
+ghost use Rattle.fk_talk.specs.Hearing.{IsAskable};
 ghost use Rattle.fk_talk.specs.Steps.{asked_by, ended_by_long_line, taken, Halts, Hears};
 ghost use Rattle.fk_talk.specs.Talks.{answered, fed, opened, starving, without_sent, Comes, HasAskInRange, HasTalked, Starves};
 ghost use Rattle.fk_talk.specs.Whole.{Answers, BreaksOff, Feeds, Gives, Keeps, Sends};
@@ -198,7 +198,7 @@ impl Talk {
 
     /// Puts out a reply of its own, or gives an ask.
     fn take_item(&mut self, item: Option<Item>) -> Result<Option<Ask>, AllocError>
-        requires form { IfSome item IsInForm }
+        requires range { IfSome item IsAskable }
         requires asked { self.old.asked ≡ false }
         ensures ok { OnOk result (self.new ≡ taken self.old item) }
         ensures ask { IfOk result (λ ask. ask ≡ asked_by item) }

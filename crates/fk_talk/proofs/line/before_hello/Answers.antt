@@ -13,6 +13,6 @@ returns-in_ok-read_hello-in-Hello-clause-does c =
 
 pub returns-in_default-clause-does : goal.returns-in_default-clause-does
 returns-in_default-clause-does c =
-    let item = c.staying.ensures.item ∙ ap (λ one. Some one) c.refuse.ensures.item in
+    let item = c.staying.ensures.item ∙ ap (λ one. Some one) c.refuse.ensures in
     nobody_is_refused _ _ c.command_in.result c.staying.result c.in_default.not-End c.in_default.not-Hello
     c.command_in.ensures item c.staying.ensures.standing
