@@ -31,8 +31,8 @@ pub(crate) fn attend(alloc: Global, workers: &Workers, ask: &Ask, moment: u64) -
 
 /// A worker is told its state, if it is listed.
 fn beat(alloc: Global, workers: &Workers, wid: &Text, moment: u64) -> Reply
-    ensures { result ≡ option_map_or state_told (state_of wid.now (fresh moment workers.now.workers))
-        unknown_worker }
+    ensures { result ≡ option_map_or state_told
+        (state_of wid.now (fresh moment workers.now.workers)) unknown_worker }
 {
     match workers.state(wid, moment) {
         Some(state) => state_told(alloc, state),
@@ -42,8 +42,8 @@ fn beat(alloc: Global, workers: &Workers, wid: &Text, moment: u64) -> Reply
 
 /// A signal comes through, if the worker is listed.
 fn signal(alloc: Global, workers: &Workers, wid: &Text, moment: u64) -> Reply
-    ensures { result ≡ option_map_or (λ own. ok) (state_of wid.now (fresh moment workers.now.workers))
-        unknown_worker }
+    ensures { result ≡ option_map_or (λ own. ok)
+        (state_of wid.now (fresh moment workers.now.workers)) unknown_worker }
 {
     match workers.state(wid, moment) {
         Some(_) => ok(alloc),

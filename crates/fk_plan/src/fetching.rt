@@ -29,7 +29,8 @@ use fk_time::GREATEST;
 use std::alloc::{AllocError, Global};
 
 /// A worker that isn't held back, or a producer where the name is empty, wants a job of the first of
-/// these queues that has one, once those that are due were put into them: these are their moments and tickets.
+/// these queues that has one, once those that are due were put into them: these are their moments and
+/// tickets.
 pub(crate) fn fetch(
     alloc: Global,
     tables: &Tables,
@@ -47,8 +48,8 @@ pub(crate) fn fetch(
         → is_held_back workers wid ≡ false
         → AreNumbersOf (brought_up tables.now.kept moment word) numbers
         → IfOk result (λ reply. IsDone tables.now.kept
-        (with_workers (brought_up tables.now.kept moment word) workers) (Fetch wid queues.now) moment
-        word reply moves.old.items moves.new.items numbers) }
+        (with_workers (brought_up tables.now.kept moment word) workers) (Fetch wid queues.now)
+        moment word reply moves.old.items moves.new.items numbers) }
     ensures room { moves.old.spare + length moves.old.items
         ≤ length moves.new.items + moves.new.spare }
 {

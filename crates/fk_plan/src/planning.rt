@@ -67,8 +67,8 @@ pub fn plan(
     ensures left { OnOk result (ask.new ≡ left_of ask.old) }
 
     // An acknowledgement or a beat takes no memory where nothing is due and there is room for two moves.
-    ensures ready { is_ack_or_beat ask.old ≡ true → IsUpToDate moment tables.now.kept → 2 ≤ moves.old.spare
-        → IsOk result }
+    ensures ready { is_ack_or_beat ask.old ≡ true → IsUpToDate moment tables.now.kept
+        → 2 ≤ moves.old.spare → IsOk result }
 {
     are_well_kept(tables);
     match plan_ask(alloc, tables, workers, ask, moment, word, moves) {
@@ -109,8 +109,8 @@ fn plan_ask(
         ask.old moment word reply moves.new.items) }
     ensures left { OnOk result (ask.new ≡ left_of ask.old) }
     ensures room { moves.old.spare ≤ length moves.new.items + moves.new.spare }
-    ensures ready { is_ack_or_beat ask.old ≡ true → IsUpToDate moment tables.now.kept → 2 ≤ moves.old.spare
-        → IsOk result }
+    ensures ready { is_ack_or_beat ask.old ≡ true → IsUpToDate moment tables.now.kept
+        → 2 ≤ moves.old.spare → IsOk result }
 {
     let mut up = bring_up(alloc, tables, moment, word, moves)?;
     let reply = act(alloc, tables, workers, ask, moment, word, &mut up, moves)?;
