@@ -1,4 +1,5 @@
 pub mod Turning
+pub mod Leaving
 pub mod Writing
 pub mod Giving
 pub mod Answering

@@ -14,7 +14,9 @@ use Rattle.fk_frame.specs.declared.reply.Reply.TheVariants.{Nil}
 use Rattle.fk_frame.specs.Replies.{IsWellFormed}
 use Rattle.fk_time.specs.Moments.{greatest}
 use Rattle.fk_model.specs.declared.ask.Ask.{Ask}
-use Rattle.fk_model.specs.declared.ask.Ask.TheVariants.{Push, PushBatch, Fetch, Ack, Fail}
+use Rattle.fk_model.specs.declared.ask.Ask.TheVariants.{Hello, Push, PushBatch, Fetch, Ack, Fail, Beat, Signal, Tick}
+use Rattle.fk_model.specs.declared.work_state.WorkState.{WorkState}
+use Rattle.fk_model.specs.declared.work_state.WorkState.TheVariants.{Running, Quiet, Terminate}
 use Rattle.fk_model.specs.declared.answer.Answer.{Answer}
 use Rattle.fk_model.specs.declared.answer.Answer.TheVariants.{Said, NoMemory, Full, DiskFault}
 use Rattle.fk_model.specs.declared.told.Compaction.TheVariants.{NotDue}
@@ -29,9 +31,10 @@ use Rattle.fk_model.specs.Range.{IsInRange}
 use Rattle.fk_model.specs.Spellings.{IsWord}
 use Rattle.fk_model.specs.Orders.{leased}
 use Rattle.fk_model.specs.Failing.{Reason, failed}
-use Rattle.fk_model.specs.Bringing.{brought_up, moves_up}
+use Rattle.fk_model.specs.Bringing.{moves_up}
 use Rattle.fk_model.specs.Requests.{fetched}
-use Rattle.fk_model.specs.Said.{Effect, handed_out, kept_and_said, ok, only_said, said, unknown_job}
+use Rattle.fk_model.specs.Workers.{state_of}
+use Rattle.fk_model.specs.Said.{handed_out, kept_and_said, ok, only_said, said, state_told, unknown_job, unknown_worker}
 use Rattle.fk_model.specs.Turns.{closed, moves_of, moves_of_turn, totals, turn, up_to_date}
 use Rattle.fk_model.specs.Answers.{reply_of}
 use Rattle.fk_model.specs.History.{next_state, faults_after, IsTold, IsRightAnswer, IsStep, IsLegalFrom, IsOverLimit}
@@ -78,42 +81,6 @@ turned_both old mid new xs ys first second =
     }
 
 -- ---- one turn
-
--- no worker is there behind what was done
-abbrev HasNoWorker : Effect → Type 0
-HasNoWorker effect = effect.state ≡ without_workers effect.state.kept
-
-none_fetched : (kept : KeptState) (moment : ℕ) (wid : List ℕ) (row : Option (ℕ × Row))
-    → HasNoWorker (option_map_or (handed_out (without_workers kept) moment wid) row (only_said (without_workers kept) Nil))
-none_fetched kept moment wid None = refl
-none_fetched kept moment wid (Some filed) = refl
-
-none_failed : (kept : KeptState) (reason : Reason) (moment word : ℕ) (row : Option (ℕ × Row))
-    → HasNoWorker (option_map_or
-    (λ filed. kept_and_said (without_workers kept) (failed reason moment word kept filed) ok) row
-    (only_said (without_workers kept) unknown_job))
-none_failed kept reason moment word None = refl
-none_failed kept reason moment word (Some filed) = refl
-
-none_said : (kept : KeptState) (ask : Ask) (moment word : ℕ)
-    → HasNoWorker (said (without_workers kept) ask moment word)
-unfolding said
-none_said kept (Push job) moment word = refl
-none_said kept (PushBatch jobs told) moment word = refl
-none_said kept (Fetch wid queues) moment word =
-    none_fetched kept moment wid (fetched (without_workers kept) wid queues)
-none_said kept (Ack jid) moment word = refl
-none_said kept (Fail jid errtype message backtrace) moment word =
-    none_failed kept (record { errtype = errtype; message = message; backtrace = backtrace }) moment word
-    (leased kept jid)
-none_said kept other moment word = refl
-
--- no worker comes by a turn
-pub no_worker_comes : (kept new : KeptState) (ask : Ask) (moment word : ℕ)
-    → new ≡ (turn (without_workers kept) ask moment word).state.kept
-    → without_workers new ≡ (turn (without_workers kept) ask moment word).state
-no_worker_comes kept new ask moment word same =
-    ap without_workers same ∙ sym (none_said (brought_up kept moment word) ask moment word)
 
 -- what is told of a turn
 told_of_turn : (moment word : ℕ) → moment < greatest → IsWord word
@@ -238,8 +205,19 @@ failed_in_form : (s : State) (reason : Reason) (moment word : ℕ) (row : Option
 failed_in_form s reason moment word None = search rules
 failed_in_form s reason moment word (Some filed) = search rules
 
+told_in_form : (told : Option WorkState) → IsWellFormed (option_map_or state_told told unknown_worker)
+told_in_form None = search rules
+told_in_form (Some Running) = search rules
+told_in_form (Some Quiet) = tt
+told_in_form (Some Terminate) = tt
+
+signalled_in_form : (told : Option WorkState) → IsWellFormed (option_map_or (λ own. ok) told unknown_worker)
+signalled_in_form None = search rules
+signalled_in_form (Some own) = search rules
+
 said_in_form : (s : State) (ask : Ask) (moment word : ℕ) → IsWellFormed (said s ask moment word).reply
 unfolding said
+said_in_form s (Hello wid) moment word = search rules
 said_in_form s (Push job) moment word = search rules
 said_in_form s (PushBatch jobs told) moment word = tt
 said_in_form s (Fetch wid queues) moment word = fetched_in_form s moment wid (fetched s wid queues)
@@ -247,6 +225,9 @@ said_in_form s (Ack jid) moment word = search rules
 said_in_form s (Fail jid errtype message backtrace) moment word =
     failed_in_form s (record { errtype = errtype; message = message; backtrace = backtrace }) moment word
     (leased s.kept jid)
+said_in_form s (Beat wid) moment word = told_in_form (state_of wid s.workers)
+said_in_form s (Signal wid given) moment word = signalled_in_form (state_of wid s.workers)
+said_in_form s Tick moment word = search rules
 said_in_form s other moment word = search rules
 
 -- so is each answer that is right
