@@ -164,7 +164,8 @@ class Body:
             return set()
         if is_call:
             owner, _, name = root.rpartition("::")
-            owners = self.meant(owner.rpartition("::")[2]) if owner else set()
+            of_module = owner in self.program.imports[self.function.file] and owner.islower()
+            owners = self.meant(owner.rpartition("::")[2]) if owner and not of_module else set()
             called = self.program.methods_of(owners, name) or self.program.named(self.function, name)
             kinds = self.results_of(called) or owners
         elif root == '""' or root[0].isdigit():

@@ -160,13 +160,21 @@ def names_of_impl(line):
     return (names[1], names[0]) if is_trait else (names[0], None)
 
 
+def braces_left(code):
+    """How many more braces a line opens than it closes, outside strings."""
+    code = re.sub(r'"(?:\\.|[^"\\])*"', '""', code)
+    return code.count("{") - code.count("}")
+
+
 def take_function(function, indent, line, lines):
     """Takes the lines of a function: its signature, its contract, and its body, if it has one."""
-    is_signed = False
+    is_signed, depth = False, 0
     while True:
         code = line.split("//")[0].rstrip()
         if re.match(r" *(requires|ensures)\b", code):
             is_signed = True
+        if is_signed and code != indent + "{":
+            depth += braces_left(code)
         clause = CLAUSE.match(code)
         if clause:
             function.clauses.append(clause.group(1) or "ensures")
@@ -174,7 +182,7 @@ def take_function(function, indent, line, lines):
             function.signature.append(code)
         if code == indent + "{" or (not is_signed and code.endswith("{")):
             break
-        if code.endswith(";"):
+        if code.endswith(";") and depth == 0:
             return
         if code == indent + "{}":
             function.body = []
