@@ -1,13 +1,14 @@
 ghost use Rattle.std.specs.Prelude.{◌≡◌, ◌∷◌, []};
 ghost use Rattle.fk_io.specs.Telling.{Gave};
-ghost use Rattle.fk_model.specs.Between.{IsAboveAll};
+ghost use Rattle.fk_model.specs.Between.{IsAboveAll, IsBetweenTurns};
 ghost use Rattle.fk_model.specs.Range.{IsInRange};
-ghost use Rattle.fk_model.specs.State.{empty, without_workers};
+ghost use Rattle.fk_model.specs.State.{empty, with_workers, without_workers};
 ghost use Rattle.fk_server.specs.Turning.{MakesTurn, server};
 
 use crate::turn::turn_at;
 use fk_core::Tables;
 use fk_io::{Clock, Dice};
+use fk_json::Text;
 use fk_model::{Answer, Ask, Moves};
 use fk_workers::Workers;
 use std::alloc::Global;
@@ -40,6 +41,7 @@ impl<C: Clock, J: Dice> Model for MemoryStore<C, J> {
       server = server (with_workers store.tables.kept store.workers.workers)
           (C.moments store.clock) (J.words store.dice);
       tables = store.tables;
+      workers = store.workers;
       clock = store.clock;
       dice = store.dice;
     } };
@@ -57,25 +59,38 @@ impl<C: Clock, J: Dice> MemoryStore<C, J> {
         ensures clock { result.clock ≡ clock }
         ensures dice { result.dice ≡ dice }
     {
-        MemoryStore::over(alloc, Tables::empty(alloc), clock, dice)
+        MemoryStore::over(
+            alloc,
+            Tables::empty(alloc),
+            Workers::new(alloc),
+            clock,
+            dice,
+        )
     }
 
-    /// A store over these tables, whose next number is above all tickets and ranks. No worker is listed:
-    /// a restart forgets them. It takes no memory.
-    pub fn over(alloc: Global, tables: Tables, clock: C, dice: J) -> MemoryStore<C, J>
+    /// A store over these tables, whose next number is above all tickets and ranks, and these workers. It
+    /// takes no memory.
+    pub fn over(
+        alloc: Global,
+        tables: Tables,
+        workers: Workers,
+        clock: C,
+        dice: J,
+    ) -> MemoryStore<C, J>
         requires { IsAboveAll tables.kept.next tables.kept.rows }
         ensures { result ≡ record {
-          server = server (without_workers tables.kept) (C.moments clock) (J.words dice);
+          server = server (with_workers tables.kept workers.workers)
+              (C.moments clock) (J.words dice);
           tables = tables;
+          workers = workers;
           clock = clock;
           dice = dice;
         } }
     {
-        // What holds between turns holds of these tables.
-        let _ = tables.next();
+        are_fit(alloc, &tables, &workers);
         MemoryStore {
             tables,
-            workers: Workers::new(alloc),
+            workers,
             clock,
             dice,
             moves: Moves::new(alloc),
@@ -114,19 +129,30 @@ impl<C: Clock, J: Dice> MemoryStore<C, J> {
 }
 
 impl<C: Clock + Drop, J: Dice + Drop> MemoryStore<C, J> {
-    /// The tables alone, over which another store can be made. The workers are forgotten.
-    pub fn into_tables(self) -> Tables
-        ensures same { result ≡ self.tables }
-        ensures state { self.server.state.kept ≡ result.kept }
-        ensures above { IsAboveAll result.kept.next result.kept.rows }
+    /// The tables and the workers, over which another store can be made.
+    pub fn into_parts(self) -> (Tables, Workers)
+        ensures tables { result.0 ≡ self.tables }
+        ensures workers { result.1 ≡ self.workers }
+        ensures state { self.server.state ≡ with_workers result.0.kept result.1.workers }
+        ensures above { IsAboveAll result.0.kept.next result.0.kept.rows }
     {
         let MemoryStore {
             tables,
-            workers: _,
+            workers,
             clock: _,
             dice: _,
             moves: _,
         } = self;
-        tables
+        (tables, workers)
     }
+}
+
+/// What holds between turns holds of tables whose next number is above all tickets and ranks, with any
+/// workers.
+fn are_fit(alloc: Global, tables: &Tables, workers: &Workers)
+    requires { IsAboveAll tables.now.kept.next tables.now.kept.rows }
+    ensures { IsBetweenTurns (with_workers tables.now.kept workers.now.workers) }
+{
+    let _ = tables.next();
+    let _ = workers.state(&Text::fixed(alloc, b""), 0);
 }
