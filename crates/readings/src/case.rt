@@ -2,7 +2,7 @@ use crate::answer::Answer;
 use crate::decoder::decoded;
 use crate::fault::Fault;
 use crate::words::{first_word, texts_in};
-use crate::{json, lines, lists, moments, payloads, replies};
+use crate::{json, lines, lists, moments, payloads, replies, streams};
 
 /// Runs the calls that a line of the script asks for, and says what came of them.
 pub(crate) fn answer_case(answer: &mut Answer, line: &str) -> Result<(), Fault> {
@@ -14,6 +14,7 @@ pub(crate) fn answer_case(answer: &mut Answer, line: &str) -> Result<(), Fault> 
         "failed-row" => payloads::failed_row(answer, rest),
         "lines" => lines::lines(answer, rest),
         "reply" => replies::reply(answer, rest),
+        "replies" => streams::replies(answer, rest),
         "pairs" => lists::pairs(answer, rest),
         "text" | "texts" | "jobs" => answer_texts(answer, kind, rest),
         _ => answer_text(answer, kind, rest),

@@ -13,6 +13,7 @@ mod moments;
 mod payloads;
 mod replies;
 mod spelling;
+mod streams;
 mod words;
 
 use answer::Answer;
