@@ -88,14 +88,14 @@ counting [] = []
 counting (piece ∷ pieces) =
     if list_any (is_called piece.name) pieces then counting pieces else piece ∷ counting pieces
 
-abbrev pub is_fresh : Piece → Bool
-is_fresh piece =
+abbrev pub is_kept : Piece → Bool
+is_kept piece =
     not (is_called (codes "queue") piece) && not (is_called (codes "enqueued_at") piece)
     && not (is_called (codes "failure") piece)
     && not (is_called (codes "created_at") piece && bytes_eq piece.value (codes "null"))
 
 abbrev pub kept : List Piece → List Piece
-kept pieces = filter is_fresh (counting pieces)
+kept pieces = filter is_kept (counting pieces)
 
 any_map : {A B : Type 0} (f : A → B) (test : B → Bool) (xs : List A)
     → list_any test (map f xs) ≡ list_any (λ x. test (f x)) xs
@@ -133,8 +133,8 @@ pub body_joined : (text : List ℕ) (members : List Member)
     → body_of text members ≡ joined (kept (pieces_in text members))
 body_joined text members =
     sym (ap (join_with_byte 44)
-    (ap (map piece_text) (ap (filter is_fresh) (counting_map text members)
-    ∙ filter_map_is (piece_in text) is_fresh (counting_members members))
+    (ap (map piece_text) (ap (filter is_kept) (counting_map text members)
+    ∙ filter_map_is (piece_in text) is_kept (counting_members members))
     ∙ map_twice (piece_in text) piece_text (filter (is_handed_on text) (counting_members members))))
 
 -- ---- the last values of what is kept
@@ -202,9 +202,9 @@ last_filter name test [] passes = refl
 last_filter name test (piece ∷ pieces) passes =
     filtered name test piece pieces passes (last_filter name test pieces passes) (test piece) refl
 
-pub last_kept : (name : List ℕ) (pieces : List Piece) → Passes name is_fresh
+pub last_kept : (name : List ℕ) (pieces : List Piece) → Passes name is_kept
     → last_value name (kept pieces) ≡ last_value name pieces
-last_kept name pieces passes = last_filter name is_fresh (counting pieces) passes ∙ last_counting name pieces
+last_kept name pieces passes = last_filter name is_kept (counting pieces) passes ∙ last_counting name pieces
 
 -- ---- pieces behind others
 
@@ -241,4 +241,4 @@ all_counting P (piece ∷ pieces) each =
     if_none P piece (counting pieces) (list_any (is_called piece.name) pieces) each.0 (all_counting P pieces each.1)
 
 pub all_kept : (P : Piece → Type 0) (pieces : List Piece) → AllByRecursion P pieces → AllByRecursion P (kept pieces)
-all_kept P pieces each = all_filter P is_fresh (counting pieces) (all_counting P pieces each)
+all_kept P pieces each = all_filter P is_kept (counting pieces) (all_counting P pieces each)

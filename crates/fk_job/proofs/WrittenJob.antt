@@ -16,7 +16,7 @@ use Rattle.fk_job.specs.Fields.{IsArrayValue, IsInteger64, IsMomentOf, IsQueue, 
 use Rattle.fk_job.specs.JobText.{IsJob, IsJobOf}
 use Rattle.fk_job.specs.Members.{body_of, given_value, unless_null, value_of}
 use Rattle.fk_job.specs.RowText.{row_text}
-use Rattle.fk_job.proofs.Pieces.{Passes, Piece, all_kept, body_joined, is_fresh, joined, kept, last_append, last_kept, last_value, pieces_in, value_last}
+use Rattle.fk_job.proofs.Pieces.{Passes, Piece, all_kept, body_joined, is_kept, joined, kept, last_append, last_kept, last_value, pieces_in, value_last}
 use Rattle.fk_job.proofs.Built.{IsPiece, is_object_text, members_of, object_of, object_pieces, pieces_are}
 use Rattle.fk_job.proofs.Spelled.{queue_utf8, spelled}
 use Rattle.fk_job.proofs.Written.{added, added_are, all_append, behind_queue, created_pieces, failure_pieces, moment_pieces, row_object}
@@ -53,7 +53,7 @@ is_kept_as name value =
     && not (bytes_eq name (codes "failure"))
     && not (bytes_eq name (codes "created_at") && bytes_eq value (codes "null"))
 
-passes : (name : List ℕ) → ((value : List ℕ) → is_kept_as name value ≡ true) → Passes name is_fresh
+passes : (name : List ℕ) → ((value : List ℕ) → is_kept_as name value ≡ true) → Passes name is_kept
 passes name always piece e = subst (λ n. is_kept_as n piece.value ≡ true) (sym e) (always piece.value)
 
 -- a name that the server doesn't write behind the queue
@@ -64,7 +64,7 @@ record IsNoneBehind (name : List ℕ) : Type 0 where
 
 -- a name that the server hands on and doesn't write
 record IsSent (name : List ℕ) : Type 0 where
-  handed : Passes name is_fresh
+  handed : Passes name is_kept
   queue : bytes_eq (codes "queue") name ≡ false
   behind : IsNoneBehind name
 
