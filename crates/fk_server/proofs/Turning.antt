@@ -2,7 +2,6 @@
 use Rattle.std.proofs.Common.{◌≡◌, ◌↔◌, ℕ, Bool, true, false, ◌-◌, ◌<◌, ◌≤◌, List, [], ◌∷◌, ◌++◌, length, Option, None, Some, refl, sym, ◌∙◌, ap, arith, rules}
 use Rattle.std.specs.Prelude.{IsTrue, slice_get}
 use Rattle.std.proofs.lemmas.Bool.{false≢true}
-use Rattle.std.specs.List.{IsDistinct}
 use Rattle.std.specs.Option.{option_map_or}
 use Rattle.std.proofs.lemmas.List.{length-append, map-append}
 use Rattle.std.proofs.lemmas.List.Elements.{All-nil, All-cons, All-append}
@@ -21,12 +20,11 @@ use Rattle.fk_model.specs.declared.answer.Answer.{Answer}
 use Rattle.fk_model.specs.declared.answer.Answer.TheVariants.{Said, NoMemory, Full, DiskFault}
 use Rattle.fk_model.specs.declared.told.Compaction.TheVariants.{NotDue}
 use Rattle.fk_model.specs.declared.entry.Entry.{Entry}
-use Rattle.fk_model.specs.declared.item.Item.TheVariants.{Own, Asks}
 use Rattle.fk_model.specs.declared.move_.Move.{Move}
 use Rattle.fk_model.specs.declared.row.Row.{Row}
 use Rattle.fk_model.specs.Limits.{greatest_next}
-use Rattle.fk_model.specs.State.{KeptState, State, without_workers}
-use Rattle.fk_model.specs.Between.{IsWellKept, IsBetweenTurns}
+use Rattle.fk_model.specs.State.{KeptState, State}
+use Rattle.fk_model.specs.Between.{IsBetweenTurns}
 use Rattle.fk_model.specs.Range.{IsInRange}
 use Rattle.fk_model.specs.Spellings.{IsWord}
 use Rattle.fk_model.specs.Orders.{leased}
@@ -38,10 +36,9 @@ use Rattle.fk_model.specs.Said.{handed_out, kept_and_said, ok, only_said, said, 
 use Rattle.fk_model.specs.Turns.{closed, moves_of, moves_of_turn, totals, turn, up_to_date}
 use Rattle.fk_model.specs.Answers.{reply_of}
 use Rattle.fk_model.specs.History.{next_state, faults_after, IsTold, IsRightAnswer, IsStep, IsLegalFrom, IsOverLimit}
-use Rattle.fk_model.proofs.Outs.{out-own, out-asks}
 use Rattle.fk_model.proofs.Histories.{legal_goes_on}
 use Rattle.fk_model.proofs.BetweenTurns.{next_keeps}
-use Rattle.fk_server.specs.Turning.{EndBeyond, MakesTurn, Replies, Server, Turned, entry_of, moments_in, server, words_in}
+use Rattle.fk_server.specs.Turning.{EndBeyond, MakesTurn, Server, Turned, entry_of, moments_in, server, words_in}
 
 -- ---- histories
 
@@ -119,11 +116,6 @@ says s after ask moment word reply range below fits within said same = record {
 -- what holds between turns holds behind a step, too
 pub still_between : (s after : State) (entry : Entry) → IsBetweenTurns s → IsStep s entry after → IsBetweenTurns after
 still_between s after entry between step = rw step.leads (next_keeps s entry between step.right)
-
--- and it holds of a kept state without workers that is well kept
-pub between_turns : (kept : KeptState) → IsWellKept kept → IsBetweenTurns (without_workers kept)
-unfolding IsDistinct
-between_turns kept well = record { kept = well; names = tt }
 
 -- a turn took a moment and a word, and was made at them
 pub makes_turn : (s after : State) (moments words later_moments later_words : Option (List ℕ)) (ask : Ask)
@@ -246,22 +238,3 @@ unfolding IsLegalFrom
 made_in_form old new ask answer made =
     answer_in_form old.state (entry_of ask made.moment made.word answer) answer
     made.turned.legal.0.answer
-
--- the reply is the item's own
-pub replies_own : (now : Server) (reply : Reply) → Replies now now (Own reply) reply
-replies_own now reply = record {
-  history = [];
-  asks = refl;
-  turned = turned_nothing now;
-  bytes = sym (out-own reply []);
-}
-
--- the reply is the answer of the turn
-pub replies_answer : (old new : Server) (ask : Ask) (answer : Answer) → MakesTurn old new ask answer
-    → Replies old new (Asks ask) (reply_of answer)
-replies_answer old new ask answer made = record {
-  history = entry_of ask made.moment made.word answer ∷ [];
-  asks = refl;
-  turned = made.turned;
-  bytes = sym (out-asks ask answer);
-}

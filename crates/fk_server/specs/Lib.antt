@@ -3,4 +3,4 @@ pub mod Turning
 pub mod Stored
 pub mod Session
 pub mod Answering
-pub mod BetweenReads
+pub mod Piped

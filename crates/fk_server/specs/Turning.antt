@@ -1,18 +1,14 @@
 -- Turns, one behind the other, as a session has them made, and their history.
 use Rattle.std.specs.Prelude.{◌≡◌, ℕ, ◌<◌, ◌-◌, List, [], ◌∷◌, length, map, All, Option, slice_get, IsSomeAnd}
 use Rattle.fk_io.specs.Telling.{Gave}
-use Rattle.fk_frame.specs.declared.reply.Reply.{Reply}
-use Rattle.fk_frame.specs.Replies.{reply_bytes}
 use Rattle.fk_model.specs.declared.ask.Ask.{Ask}
 use Rattle.fk_model.specs.declared.answer.Answer.{Answer}
 use Rattle.fk_model.specs.declared.told.Compaction.TheVariants.{NotDue}
 use Rattle.fk_model.specs.declared.entry.Entry.{Entry}
-use Rattle.fk_model.specs.declared.item.Item.{Item}
 use Rattle.fk_model.specs.declared.move_.Move.{Move}
 use Rattle.fk_model.specs.declared.move_.Move.TheVariants.{Totals}
 use Rattle.fk_model.specs.Limits.{greatest_next}
 use Rattle.fk_model.specs.State.{State}
-use Rattle.fk_model.specs.Out.{asks_of, out}
 use Rattle.fk_model.specs.History.{state_after, IsLegal}
 
 -- what turns are made of: the state, and what the clock and the dice tell
@@ -65,13 +61,6 @@ pub record MakesTurn (old new : Server) (ask : Ask) (answer : Answer) : Type 0 w
   pub moment : ℕ
   pub word : ℕ
   pub turned : Turned old new (entry_of ask moment word answer ∷ [])
-
--- the reply to an item was found: its own, or the answer of the turn that was made
-pub record Replies (old new : Server) (item : Item) (reply : Reply) : Type 0 where
-  pub history : List Entry
-  pub asks : asks_in history ≡ asks_of (item ∷ [])
-  pub turned : Turned old new history
-  pub bytes : reply_bytes reply ≡ out (item ∷ []) (answers_in history)
 
 -- ---- the limit
 

@@ -1,12 +1,14 @@
 //! The top calls of the job server.
 #![tactic(auto)]
 
-mod answer;
+mod lines;
 mod memory_store;
 mod piped;
-mod reply;
+mod send;
 mod session;
 mod turn;
+mod words;
 
 pub use memory_store::MemoryStore;
 pub use piped::pipe;
+pub use words::{CommandWord, Settings, WordsFault, read_words};

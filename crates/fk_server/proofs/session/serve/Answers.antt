@@ -1,17 +1,16 @@
-use Rattle.std.proofs.Common.{◌≡◌, rules}
-use Rattle.fk_model.specs.declared.item.Phase.TheVariants.{Over}
+use Rattle.std.proofs.Common.{ap}
 use Rattle.fk_server.proofs.Breaks.{not_begun}
-use Rattle.fk_server.proofs.Ends.{ends_over}
-use Rattle.fk_server.proofs.BetweenReads.{begun}
+use Rattle.fk_server.proofs.Ends.{asks_nothing, begun}
 use Rattle.fk_server.proofs.session.serve.Goals as goal
 
 pub returns-in-Err : goal.returns-in-Err
-returns-in-Err g c = not_begun _ _ _ _ c.in-Err.ensures.err
+returns-in-Err g c =
+    rw c.in-Err.ensures.err
+    (not_begun c.args.talk.gate _ _ _ _ (rw (ap (λ t. t.out) c.requires) at c.in-Err.ensures.breaks))
 
 pub pieces-init : goal.pieces-init
-pieces-init g c = rw c.new.ensures (begun _ _ _ _ c.in_default.ensures.ok)
-
-pub returns : goal.returns
-returns g c =
-    let over : c.pieces.session.phase ≡ Over = search rules in
-    ends_over _ _ _ over c.pieces.invariant
+pieces-init g c = record {
+  asked = asks_nothing c.args.talk.gate c.args.talk c.send.new.talk c.requires c.in_default.ensures.sent;
+  served = begun c.args.talk.gate _ _ _ _ c.args.talk c.send.new.talk c.requires c.in_default.ensures.ok
+      c.in_default.ensures.sent;
+}
