@@ -1,0 +1,4 @@
+mod Says
+mod Ends
+mod Bytes
+mod Strings

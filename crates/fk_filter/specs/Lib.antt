@@ -1,0 +1,3 @@
+pub mod Glob
+pub mod Stretches
+pub mod Filters

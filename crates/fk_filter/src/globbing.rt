@@ -1,0 +1,71 @@
+ghost use Rattle.std.specs.Prelude.{◌∷◌, ◌↔◌, IsTrue};
+ghost use Rattle.fk_filter.specs.declared.part.Part.TheVariants.{Run};
+ghost use Rattle.fk_filter.specs.Glob.{Globs, Match, parts_of};
+ghost use Rattle.fk_filter.specs.Stretches.{Seeks, SeeksLess};
+
+use crate::stretch::{Left, Stop, stretch};
+
+/// Where the search for a text behind a run has led.
+#[derive(Clone, Copy)]
+enum Search<'a> {
+    On(Left<'a>),
+    Ends(bool),
+}
+
+/// Whether a pattern matches the whole text, byte by byte: `*` is any bytes, `?` one byte, `\` with a
+/// byte behind it that byte, and at the end itself.
+///
+/// It takes no memory, and at worst about as many steps as the two lengths multiplied: behind each `*`
+/// what comes up to the next is looked for at one place of the text after the other. The first place will
+/// do, since the next `*` can leave out whatever lies up to a later one.
+pub(crate) fn glob(pattern: &[u8], text: &[u8]) -> bool
+    ensures { IsTrue result ↔ Globs pattern.now text.now }
+{
+    match stretch(Left { pattern, text }) {
+        Stop::Run(left) => anywhere(left),
+        Stop::Whole => true,
+        Stop::Elsewhere | Stop::Nowhere => false,
+    }
+}
+
+/// Whether what is left of a pattern matches an end of what is left of the text.
+fn anywhere(start: Left) -> bool
+    ensures { IsTrue result ↔ Match (Run ∷ parts_of start.entry.pattern.now) start.entry.text.now }
+{
+    let mut left = start;
+    'places: loop {
+        match seek(left) {
+            Search::On(next) => left = next,
+            Search::Ends(found) => return found,
+        }
+    }
+}
+
+/// Holds the pattern up to its next run against the front of the text. Where that fails, the text is to
+/// begin one byte later.
+fn seek<'a>(left: Left<'a>) -> Search<'a>
+    ensures is { Seeks (parts_of left.entry.pattern.now) left.entry.text.now result }
+    ensures less { SeeksLess left.entry result }
+{
+    match stretch(left) {
+        Stop::Run(next) => Search::On(next),
+        Stop::Whole => Search::Ends(true),
+        Stop::Elsewhere => later(left),
+        Stop::Nowhere => Search::Ends(false),
+    }
+}
+
+/// The text begins one byte later, unless it is at its end.
+fn later<'a>(left: Left<'a>) -> Search<'a>
+    requires { ¬ Match (parts_of left.pattern.now) left.text.now }
+    ensures is { Seeks (parts_of left.entry.pattern.now) left.entry.text.now result }
+    ensures less { SeeksLess left.entry result }
+{
+    match left.text {
+        [] => Search::Ends(false),
+        [_, behind @ ..] => Search::On(Left {
+            pattern: left.pattern,
+            text: behind,
+        }),
+    }
+}
