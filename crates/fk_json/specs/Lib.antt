@@ -17,3 +17,4 @@ pub mod Reached
 pub mod Cursors
 pub mod Roomy
 pub mod Pieces
+pub mod PairOrder

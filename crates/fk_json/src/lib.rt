@@ -27,7 +27,7 @@ mod token;
 
 pub use fault::JsonFault;
 pub use list_of::ListOf;
-pub use list_with_room::{ListWithRoom, Pairs};
+pub use list_with_room::{Buffer, ListWithRoom, Pairs};
 pub use member::{Member, Members};
 pub use number::integer_value;
 pub use scan::{scan_array, scan_object};

@@ -1,4 +1,4 @@
-ghost use Rattle.std.specs.Prelude.{◌≡◌, ◌∷◌, ◌++◌, ◌+◌, ◌<◌, ◌≤◌, ◌↔◌, ℕ, [], length, slice_get, slice_set, IsOk, IsTrue, OnErr, OnOk};
+ghost use Rattle.std.specs.Prelude.{◌≡◌, ◌∷◌, ◌++◌, ◌+◌, ◌<◌, ◌≤◌, ◌^◌, ◌↔◌, ℕ, [], length, slice_get, slice_set, IsOk, IsTrue, OnErr, OnOk};
 ghost use Rattle.std.specs.Option.{option_copied};
 
 use std::alloc::{AllocError, Global};
@@ -13,6 +13,9 @@ pub struct ListWithRoom<T> {
 
 /// A list of pairs of numbers, and room for more.
 pub type Pairs = ListWithRoom<(u64, u64)>;
+
+/// Bytes that grow at their end, and room for more.
+pub type Buffer = ListWithRoom<u8>;
 
 impl<T> Model for ListWithRoom<T> {
     ghost use Rattle.std.specs.Prelude.{◌-◌, vec_len, vec_capacity};
@@ -36,12 +39,14 @@ impl<T: Drop> ListWithRoom<T> {
         }
     }
 
-    /// Makes room for more items. The items stay, and so does the room that was there.
+    /// Makes room for more items. The items stay, and so does the room that was there. There is never
+    /// room for 2^63 items.
     pub fn reserve(&mut self, more: usize) -> Result<(), AllocError>
         ensures ok { OnOk result (more ≤ self.new.spare) }
         ensures kept { self.old.spare ≤ self.new.spare }
         ensures same { self.new.items ≡ self.old.items }
         ensures ready { more ≤ self.old.spare → IsOk result }
+        ensures bound { self.new.spare < 2 ^ 63 }
     {
         self.items.reserve(more)
     }
@@ -90,6 +95,13 @@ impl<T: Drop> ListWithRoom<T> {
         ensures { option_copied result ≡ slice_get self.now.items at }
     {
         self.items.get(at)
+    }
+
+    /// All items, in order.
+    pub fn as_slice(&self) -> &[T]
+        ensures { result.now ≡ self.now.items }
+    {
+        &self.items
     }
 
     /// The number of items.
@@ -141,5 +153,27 @@ impl ListWithRoom<(u64, u64)> {
     {
         self.items.reserve(others.len())?;
         self.items.extend_from_slice(others)
+    }
+}
+
+impl ListWithRoom<u8> {
+    /// Adds bytes at the end, or leaves the buffer as it is. It can't fail where there is room for them,
+    /// and what is free beyond them stays free.
+    pub fn push_bytes(&mut self, bytes: &[u8]) -> Result<(), AllocError>
+        ensures ok { OnOk result (self.new.items ≡ self.old.items ++ bytes.now) }
+        ensures err { OnErr result (self.new.items ≡ self.old.items) }
+        ensures kept { self.old.spare ≤ self.new.spare + length bytes.now }
+        ensures stays { OnErr result (self.old.spare ≤ self.new.spare) }
+        ensures ready { length bytes.now ≤ self.old.spare → IsOk result }
+    {
+        self.items.reserve(bytes.len())?;
+        self.items.extend_from_slice(bytes)
+    }
+
+    /// The bytes, in order.
+    pub fn bytes(&self) -> &[u8]
+        ensures { result.now ≡ self.now.items }
+    {
+        self.items.as_slice()
     }
 }
