@@ -2,7 +2,8 @@
 use Rattle.std.proofs.Common.{◌≢◌, ℕ, ◌+◌, ◌<◌, ◌≤◌, List, filter, arith}
 use Rattle.std.specs.Prelude.{All}
 use Rattle.std.proofs.lemmas.List.Elements.{All-append, All-cons, All-filter, All-weaker}
-use Rattle.fk_model.specs.Orders.{comes_before, with_pair, ticket_in}
+use Rattle.fk_json.specs.PairOrder.{comes_before, with_pair}
+use Rattle.fk_model.specs.Orders.{ticket_in}
 use Rattle.fk_tree.specs.Order.{without_pair}
 use Rattle.fk_timed.specs.Timed.{IsAbsent}
 use Rattle.bench_timed.specs.Tickets.{AreBelow}

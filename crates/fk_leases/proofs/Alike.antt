@@ -6,7 +6,8 @@ use Rattle.std.specs.List.{AllByRecursion}
 use Rattle.std.proofs.lemmas.Bool.Decides.{nat_tests}
 use Rattle.std.proofs.lemmas.List.Filters.{sum_by-filter_both}
 use Rattle.std.proofs.lemmas.List.Sums.{sum_by-append, sum_by-cons}
-use Rattle.fk_tree.specs.Order.{comes_before, with_pair, without_pair, AreOthers, IsRising}
+use Rattle.fk_json.specs.PairOrder.{comes_before, with_pair}
+use Rattle.fk_tree.specs.Order.{without_pair, AreOthers, IsRising}
 use Rattle.fk_leases.specs.Ends.{is_pair, HaveSame, IsAmong}
 
 abbrev pub one_if : Bool → ℕ

@@ -8,7 +8,8 @@ use Rattle.std.proofs.lemmas.Bool.Decides.{nat_tests}
 use Rattle.std.proofs.lemmas.List.{length-map, map_more}
 use Rattle.std.proofs.lemmas.Simd.{map-map}
 use Rattle.fk_model.specs.Orders.{in_order, number_in}
-use Rattle.fk_tree.specs.Order.{comes_before, up_to, IsRising}
+use Rattle.fk_json.specs.PairOrder.{comes_before}
+use Rattle.fk_tree.specs.Order.{up_to, IsRising}
 use Rattle.fk_lists.specs.Least.{least}
 use Rattle.fk_lists.specs.Room.{Named, all_pairs}
 use Rattle.fk_lists.proofs.Sorted.{in_order_alike}

@@ -7,7 +7,8 @@ use Rattle.std.specs.List.{AllByRecursion, insert}
 use Rattle.std.proofs.lemmas.List.{take-append-drop}
 use Rattle.std.proofs.lemmas.List.Elements.{recursion_from_All, All-from_recursion, All-contains, filter-append}
 use Rattle.std.proofs.lemmas.Bool.Decides.{nat_tests}
-use Rattle.fk_model.specs.Orders.{comes_before, number_in, with_pair}
+use Rattle.fk_json.specs.PairOrder.{comes_before, with_pair}
+use Rattle.fk_model.specs.Orders.{number_in}
 use Rattle.fk_lists.specs.Places.{IsGap, IsPlace}
 use Rattle.fk_lists.proofs.Rising.{AreAbove, AreBelow, all_join}
 use Rattle.fk_leases.specs.Leases.{leased_ticket, until_in, without_lease, IsAbsent}

@@ -1,6 +1,6 @@
 ghost use Rattle.std.specs.Prelude.{◌≡◌, ◌↔◌, ◌++◌, ◌^◌, ◌-◌, ◌+◌, ◌<◌, find, length, min, nat_lt, option_and_then, option_map, slice_get, Contains, IsFalse, IsTrue, OnErr, OnOk, Some};
 ghost use Rattle.std.specs.List.{remove};
-ghost use Rattle.fk_model.specs.Orders.{with_pair};
+ghost use Rattle.fk_json.specs.PairOrder.{with_pair};
 ghost use Rattle.fk_lists.specs.Room.{all_pairs, list_at, no_lists, spare_at, AreNamed, IsLean, OthersStay};
 ghost use Rattle.fk_leases.specs.Leases.{first_until, leased_ticket, until_in, run_out, ticket_beyond, without_lease, AreByTicket, IsUnleased};
 

@@ -12,7 +12,8 @@ use Rattle.std.proofs.lemmas.List.Elements.{recursion_from_All}
 use Rattle.std.proofs.lemmas.List.Sums.{sum_by-cons}
 use Rattle.std.proofs.lemmas.List.Sorted.{sum_by-IsPermutation}
 use Rattle.std.specs.Map.{values_of}
-use Rattle.fk_model.specs.Orders.{comes_before, in_order}
+use Rattle.fk_json.specs.PairOrder.{comes_before}
+use Rattle.fk_model.specs.Orders.{in_order}
 use Rattle.fk_model.proofs.Sorting.{IsAhead, are_in_order, are_the_same}
 use Rattle.fk_lists.specs.Room.{Named, all_pairs}
 use Rattle.fk_lists.specs.PairLists.{PairList, items_of}

@@ -5,7 +5,8 @@ use Rattle.std.specs.List.{AllByRecursion}
 use Rattle.std.proofs.lemmas.Bool.{cases_Bool}
 use Rattle.std.proofs.lemmas.Bool.Decides.{nat_tests}
 use Rattle.std.proofs.lemmas.List.Elements.{All-from_recursion, All-contains, Contains-append_right, Contains-append_cases}
-use Rattle.fk_tree.specs.Order.{comes_before, with_pair, without_pair, up_to, IsRising}
+use Rattle.fk_json.specs.PairOrder.{comes_before, with_pair}
+use Rattle.fk_tree.specs.Order.{without_pair, up_to, IsRising}
 use Rattle.fk_tree.proofs.Kept.{all_weaker, kept_first, lost_first, kept_all, back_kept, back_lost, front_kept, front_lost}
 use Rattle.fk_tree.proofs.Rising.{not_behind, further, all_ahead, all_behind, rising_filter, rising_join}
 

@@ -1,6 +1,7 @@
 -- A pair is put into one of the sides of a node.
 use Rattle.std.proofs.Common.{◌≡◌, ℕ, ◌+◌, ◌≤◌, true, List, ◌∷◌, ◌++◌, sym, ap, subst, ◌∙◌, arith}
-use Rattle.fk_tree.specs.Order.{comes_before, with_pair, AreOthers, IsRising}
+use Rattle.fk_json.specs.PairOrder.{comes_before, with_pair}
+use Rattle.fk_tree.specs.Order.{AreOthers, IsRising}
 use Rattle.fk_tree.specs.Shape.{Shape, AreSides, IsFull, IsOver, pairs_over}
 use Rattle.fk_tree.proofs.Kept.{all_front, all_back}
 use Rattle.fk_tree.proofs.Around.{with_left, with_right, rising_with}

@@ -3,7 +3,8 @@ use Rattle.std.proofs.Common.{◌≡◌, ℕ, Bool, true, false, cond, List, [],
 use Rattle.std.specs.Prelude.{filter}
 use Rattle.std.specs.List.{AllByRecursion}
 use Rattle.std.proofs.lemmas.Bool.Decides.{nat_tests}
-use Rattle.fk_tree.specs.Order.{comes_before, IsRising}
+use Rattle.fk_json.specs.PairOrder.{comes_before}
+use Rattle.fk_tree.specs.Order.{IsRising}
 use Rattle.fk_tree.proofs.Kept.{all_front, all_back, all_join, all_weaker, all_filter}
 
 -- ---- two and three pairs

@@ -4,7 +4,8 @@ use Rattle.std.proofs.lemmas.Bool.{cases_lt}
 use Rattle.std.specs.Prelude.{is_some, IfNone, IfSome}
 use Rattle.std.specs.declared.alloc.Global.{Global}
 use Rattle.fk_tree.specs.declared.side.Node.{Node}
-use Rattle.fk_tree.specs.Order.{comes_before, with_pair, AreOthers}
+use Rattle.fk_json.specs.PairOrder.{comes_before, with_pair}
+use Rattle.fk_tree.specs.Order.{AreOthers}
 use Rattle.fk_tree.specs.Shape.{Shape, AreSides, IsFull, IsOver, pairs_over}
 use Rattle.fk_tree.specs.Side.{pair_of, pairs_of, height_of, IsBalanced, IsNear, IsAllowed}
 use Rattle.fk_tree.proofs.Halves.{low_height}

@@ -2,7 +2,8 @@
 use Rattle.std.proofs.Common.{◌≡◌, ℕ, ◌+◌, ◌≤◌, true, List, ◌∷◌, ◌++◌, sym, ap, subst, ◌∙◌, arith}
 use Rattle.std.specs.Prelude.{◌↔◌, Contains}
 use Rattle.std.proofs.lemmas.List.Elements.{Contains-append_left}
-use Rattle.fk_tree.specs.Order.{comes_before, without_pair, IsRising}
+use Rattle.fk_json.specs.PairOrder.{comes_before}
+use Rattle.fk_tree.specs.Order.{without_pair, IsRising}
 use Rattle.fk_tree.specs.Shape.{Shape, AreSides, IsBare, IsFull, IsOver, pairs_over}
 use Rattle.fk_tree.proofs.Rising.{rising_filter, rising_less}
 use Rattle.fk_tree.proofs.Around.{without_left, without_right, without_middle, found_left, found_right, found_in_right, found_middle}

@@ -1,10 +1,7 @@
 -- The order of pairs of a moment and a ticket, and lists of pairs in that order.
 use Rattle.std.specs.Prelude.{ℕ, ◌==◌, ◌&&◌, ◌||◌, ◌≢◌, nat_lt, not, Bool, IsTrue, List, [], ◌∷◌, ◌++◌, filter}
 use Rattle.std.specs.List.{AllByRecursion}
-
--- whether a pair comes before another: by the moments, and for equal moments by the tickets
-abbrev pub comes_before : ℕ × ℕ → ℕ × ℕ → Bool
-comes_before one other = nat_lt one.0 other.0 || ((one.0 == other.0) && nat_lt one.1 other.1)
+use Rattle.fk_json.specs.PairOrder.{comes_before}
 
 -- each pair comes before all that stand behind it, so that each stands once
 abbrev pub IsRising : List (ℕ × ℕ) → Type 0
@@ -15,12 +12,6 @@ IsRising (pair ∷ pairs) =
 -- no pair among them is this one
 abbrev pub AreOthers : ℕ × ℕ → List (ℕ × ℕ) → Type 0
 AreOthers pair pairs = AllByRecursion (λ other. other ≢ pair) pairs
-
--- pairs in order, with one more in its place
-abbrev pub with_pair : ℕ × ℕ → List (ℕ × ℕ) → List (ℕ × ℕ)
-with_pair pair pairs =
-    filter (λ other. comes_before other pair) pairs
-    ++ pair ∷ filter (λ other. not (comes_before other pair)) pairs
 
 -- the pairs but this one
 abbrev pub without_pair : ℕ × ℕ → List (ℕ × ℕ) → List (ℕ × ℕ)

@@ -1,6 +1,7 @@
 //! A balanced search tree of pairs of a moment and a ticket, with room for more.
 #![tactic(auto)]
 
+mod counter;
 mod key;
 mod levels;
 mod putting;

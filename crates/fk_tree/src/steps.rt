@@ -1,5 +1,6 @@
 ghost use Rattle.std.specs.Prelude.{◌≡◌, ◌+◌, ◌-◌, ◌^◌, ◌<◌, min};
 
+use crate::counter::Counter;
 use std::marker::Model;
 use std::sync::ledger::{Blank, Book, Ledger, Share};
 
@@ -45,11 +46,12 @@ impl<L: Ledger> Steps<L> {
     {
         self.count
     }
+}
 
-    /// Counts a comparison.
-    pub(crate) fn add(&mut self)
-        ensures { self.new ≡ self.old + 1 }
-    {
+impl<L: Ledger> Counter for Steps<L> {
+    ghost counted = { λ steps. steps };
+
+    fn add(&mut self) {
         self.book.add(&mut self.share, 1);
         self.count = self.count.saturating_add(1);
     }

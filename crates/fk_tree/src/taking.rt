@@ -3,23 +3,22 @@ ghost use Rattle.fk_tree.specs.Order.{without_pair};
 ghost use Rattle.fk_tree.specs.Shape.{height_over, AreSides, IsBare, IsFull};
 ghost use Rattle.fk_tree.specs.Side.{pair_of, pairs_of, height_of, sides_of, IsBalanced};
 
+use crate::counter::Counter;
 use crate::key::Key;
 use crate::levels::settle;
 use crate::side::{Node, Side};
-use crate::steps::Steps;
 use std::cmp::Ordering;
 use std::mem;
-use std::sync::ledger::Ledger;
 
 impl Side {
     /// Takes the node of a pair out into `taken`, if it is there, and tells whether the side fell by a
     /// level. A node is touched above it only as far as heights change.
     #[tactic(auto, using(crate::proofs::Tops::shorter_left, crate::proofs::Tops::shorter_right))]
-    pub(crate) fn remove<L: Ledger>(
+    pub(crate) fn remove<C: Counter>(
         &mut self,
         key: Key,
         taken: &mut Option<Box<Node>>,
-        steps: &mut Steps<L>,
+        steps: &mut C,
     ) -> bool
         requires few { length self.old.pairs < 2 ^ 64 }
         requires none { IsNone taken.old }
@@ -29,7 +28,7 @@ impl Side {
         ensures not_higher { self.new.height ≤ self.old.height }
         ensures told { result ≡ false → self.new.height ≡ self.old.height }
         ensures full { IsFull self.new }
-        ensures steps { steps.new ≤ steps.old + self.old.height }
+        ensures steps { C.counted steps.new ≤ C.counted steps.old + self.old.height }
     {
         let Some(node) = &mut self.top else {
             return false;
@@ -53,11 +52,11 @@ impl Side {
     // and tells whether the side fell by a level. Each node on the way to it is compared once with
     // that pair.
     #[tactic(auto, using(crate::proofs::Tops::shorter_left))]
-    fn remove_first<L: Ledger>(
+    fn remove_first<C: Counter>(
         &mut self,
         key: Key,
         first: &mut Option<Box<Node>>,
-        steps: &mut Steps<L>,
+        steps: &mut C,
     ) -> bool
         requires few { length self.old.pairs < 2 ^ 64 }
         requires none { IsNone first.old }
@@ -69,7 +68,7 @@ impl Side {
         ensures not_higher { self.new.height ≤ self.old.height }
         ensures told { result ≡ false → self.new.height ≡ self.old.height }
         ensures full { IsFull self.new }
-        ensures steps { steps.new ≤ steps.old + self.old.height }
+        ensures steps { C.counted steps.new ≤ C.counted steps.old + self.old.height }
     {
         let Some(node) = &mut self.top else {
             return false;
@@ -87,10 +86,10 @@ impl Side {
 }
 
 // Takes what stands there out into `taken`. Its sides stay, as one side.
-fn remove_top<L: Ledger>(
+fn remove_top<C: Counter>(
     top: &mut Option<Box<Node>>,
     taken: &mut Option<Box<Node>>,
-    steps: &mut Steps<L>,
+    steps: &mut C,
 ) -> bool
     requires few { length (sides_of top.old) < 2 ^ 64 }
     requires balanced { IsBalanced top.old }
@@ -100,7 +99,7 @@ fn remove_top<L: Ledger>(
     ensures not_lower { height_of top.old ≤ height_of top.new + 1 }
     ensures not_higher { height_of top.new ≤ height_of top.old }
     ensures told { result ≡ false → height_of top.new ≡ height_of top.old }
-    ensures steps { steps.new ≤ steps.old + (height_of top.old - 1) }
+    ensures steps { C.counted steps.new ≤ C.counted steps.old + (height_of top.old - 1) }
 {
     let Some(node) = top else {
         *taken = None;
@@ -116,14 +115,14 @@ fn remove_top<L: Ledger>(
 }
 
 // The two sides of a taken node as one side: the next pair behind the taken one comes to the top.
-fn joined<L: Ledger>(left: Side, mut right: Side, key: Key, steps: &mut Steps<L>) -> Side
+fn joined<C: Counter>(left: Side, mut right: Side, key: Key, steps: &mut C) -> Side
     requires few { length (left.pairs ++ right.pairs) < 2 ^ 64 }
     requires sides { AreSides 1 left (pair_of key) right }
     ensures pairs { result.pairs ≡ left.pairs ++ right.pairs }
     ensures not_lower { max left.height right.height ≤ result.height }
     ensures not_higher { result.height ≤ height_over left right }
     ensures full { IsFull result }
-    ensures steps { steps.new ≤ steps.old + right.height }
+    ensures steps { C.counted steps.new ≤ C.counted steps.old + right.height }
 {
     let mut first = None;
     right.remove_first(key, &mut first, steps);

@@ -1,7 +1,9 @@
 ghost use Rattle.std.specs.Prelude.{◌≡◌, [], ◌++◌, ◌+◌, ◌<◌, ◌≤◌, ◌↔◌, max, length, slice_get, Contains, IsOk, IsTrue, OnErr, OnOk};
-ghost use Rattle.fk_tree.specs.Order.{up_to, with_pair, without_pair, AreOthers, IsRising};
+ghost use Rattle.fk_json.specs.PairOrder.{with_pair};
+ghost use Rattle.fk_tree.specs.Order.{up_to, without_pair, AreOthers, IsRising};
 ghost use Rattle.fk_tree.specs.Depth.{AreFew};
 
+use crate::counter::{Counter, Unread};
 use crate::key::Key;
 use crate::side::Side;
 use crate::spare::Spare;
@@ -80,7 +82,7 @@ impl Tree {
         ensures items { self.new.items ≡ with_pair (moment, ticket) self.old.items }
         ensures spare { self.new.spare + 1 ≡ self.old.spare }
     {
-        self.put_counted(moment, ticket, &mut Steps::<L>::new(blank));
+        self.put_by(moment, ticket, &mut Unread::<L>::new(blank));
     }
 
     /// Puts a pair that isn't there, and counts the comparisons.
@@ -91,8 +93,20 @@ impl Tree {
         ensures spare { self.new.spare + 1 ≡ self.old.spare }
         ensures steps { AreFew (length self.old.items) steps.old steps.new }
     {
+        self.put_by(moment, ticket, steps);
+    }
+
+    // Puts a pair, and counts by what counts.
+    fn put_by<C: Counter>(&mut self, moment: u64, ticket: u64, counter: &mut C)
+        requires room { 0 < self.old.spare }
+        requires absent { AreOthers (moment, ticket) self.old.items }
+        ensures items { self.new.items ≡ with_pair (moment, ticket) self.old.items }
+        ensures spare { self.new.spare + 1 ≡ self.old.spare }
+        ensures steps { AreFew (length self.old.items) (C.counted counter.old)
+            (C.counted counter.new) }
+    {
         let node = self.spare.node(moment, ticket);
-        self.root.put(node, steps);
+        self.root.put(node, counter);
         self.count += 1;
     }
 
@@ -114,7 +128,7 @@ impl Tree {
         ensures items { self.new.items ≡ without_pair (moment, ticket) self.old.items }
         ensures spare { self.new.spare ≡ self.old.spare }
     {
-        self.take_counted(moment, ticket, &mut Steps::<L>::new(blank))
+        self.take_by(moment, ticket, &mut Unread::<L>::new(blank))
     }
 
     /// Takes a pair out, tells whether it was there, and counts the comparisons. The room stays.
@@ -129,8 +143,20 @@ impl Tree {
         ensures spare { self.new.spare ≡ self.old.spare }
         ensures steps { AreFew (length self.old.items) steps.old steps.new }
     {
+        self.take_by(moment, ticket, steps)
+    }
+
+    // Takes a pair out, and counts by what counts.
+    fn take_by<C: Counter>(&mut self, moment: u64, ticket: u64, counter: &mut C) -> bool
+        ensures found { IsTrue result ↔ Contains self.old.items (moment, ticket) }
+        ensures items { self.new.items ≡ without_pair (moment, ticket) self.old.items }
+        ensures spare { self.new.spare ≡ self.old.spare }
+        ensures steps { AreFew (length self.old.items) (C.counted counter.old)
+            (C.counted counter.new) }
+    {
         let mut taken = None;
-        self.root.remove(Key { moment, ticket }, &mut taken, steps);
+        self.root
+            .remove(Key { moment, ticket }, &mut taken, counter);
         let Some(node) = taken else {
             return false;
         };

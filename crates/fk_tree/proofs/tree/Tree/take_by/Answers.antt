@@ -1,7 +1,7 @@
 use Rattle.std.proofs.Common.{length, ap, arith, refl}
 use Rattle.fk_tree.proofs.Rising.{rising_filter}
 use Rattle.fk_tree.proofs.Counts.{few_steps, one_less, none_less}
-use Rattle.fk_tree.proofs.tree.Tree.take_counted.Goals as goal
+use Rattle.fk_tree.proofs.tree.Tree.take_by.Goals as goal
 
 pub returns-in_default-clause-steps : goal.returns-in_default-clause-steps
 returns-in_default-clause-steps g c =

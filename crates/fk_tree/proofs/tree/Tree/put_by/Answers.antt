@@ -2,7 +2,7 @@ use Rattle.std.proofs.Common.{ℕ, length, ap, sym, subst, ◌∙◌, arith}
 use Rattle.fk_tree.specs.Order.{AreOthers}
 use Rattle.fk_tree.proofs.Around.{rising_with}
 use Rattle.fk_tree.proofs.Counts.{length-with_pair, few_steps}
-use Rattle.fk_tree.proofs.tree.Tree.put_counted.Goals as goal
+use Rattle.fk_tree.proofs.tree.Tree.put_by.Goals as goal
 
 pub returns-clause-steps : goal.returns-clause-steps
 returns-clause-steps g c =
