@@ -1,5 +1,5 @@
--- What a HELLO, a PUSH, a PUSHB, a FETCH, an ACK, a FAIL, a BEAT and a SIGNAL ask for is in range, where
--- what serde_json decodes or writes of it is a text.
+-- What a HELLO, a PUSH, a PUSHB, a FETCH, an ACK, a FAIL, a BEAT, a SIGNAL, an INFO, a FLUSH and a MUTATE ask
+-- for is in range, where what serde_json decodes or writes of it is a text.
 use Rattle.std.proofs.Common.{◌≡◌, inl, inr, ℕ, ◌<◌, ◌≤◌, Bool, true, false, List, [], ◌∷◌, length, filter, slice_range, codes, Option, None, Some, if◌then◌else◌, option_and_then, sym, subst, arith}
 use Rattle.std.specs.Prelude.{All}
 use Rattle.std.specs.List.{slice_split}
@@ -14,12 +14,16 @@ use Rattle.fk_frame.specs.Lines.{longest_line}
 use Rattle.fk_job.specs.Spellings.{HasJobSpelling, IsText}
 use Rattle.fk_job.proofs.JobSpelled.{job_spelled}
 use Rattle.fk_model.specs.declared.ask.Ask.{Ask}
-use Rattle.fk_model.specs.declared.ask.Ask.TheVariants.{Hello, Push, PushBatch, Fetch, Ack, Fail, Beat, Signal}
+use Rattle.fk_model.specs.declared.ask.Ask.TheVariants.{Hello, Push, PushBatch, Fetch, Ack, Fail, Beat, Signal, Info, Flush, Mutate}
+use Rattle.fk_model.specs.declared.mutation.Cmd.{Cmd}
+use Rattle.fk_model.specs.declared.mutation.Filter.{Filter}
+use Rattle.fk_model.specs.declared.mutation.Target.{Target}
 use Rattle.fk_model.specs.declared.work_state.WorkState.{WorkState}
 use Rattle.fk_model.specs.declared.item.Item.{Item}
 use Rattle.fk_model.specs.declared.item.Item.TheVariants.{Asks}
 use Rattle.fk_model.specs.Commands.{is_space}
 use Rattle.fk_model.specs.Payloads.{AreElements, Element, IsBatch, IsFetched, IsPushed, accepted, acknowledged, barred, beat, is_some_text, jobs_among, or_default, queue_names, refused, reported, signal, signal_to, state_named, string_among, string_or_unknown, strings_among, taken}
+use Rattle.fk_model.specs.Mutations.{cmd_named, filter_among, mutation, mutation_by, mutation_of, target_named}
 use Rattle.fk_model.specs.Handshake.{Welcome, let_in, turned_away}
 use Rattle.fk_model.specs.Range.{AreJobs, HasJsonTexts, IsInRange}
 use Rattle.fk_model.specs.Script.{hello_item}
@@ -205,3 +209,36 @@ pub signal_askable : (found : Option Members)
     → AreAskable (option_map_or signal found (refused (codes "Bad JSON")) ∷ [])
 signal_askable None = none_askable
 signal_askable (Some members) = signal_to_askable members (string_among (codes "wid") members)
+
+-- ---- an INFO and a FLUSH
+
+pub info_askable : AreAskable (Asks Info ∷ [])
+info_askable = one_askable Info (λ is. is)
+
+pub flush_askable : AreAskable (Asks Flush ∷ [])
+flush_askable = one_askable Flush (λ is. is)
+
+-- ---- a MUTATE
+
+filter_askable : (cmd : Cmd) (target : Target) (filter : Option Filter)
+    → AreAskable (option_map_or (λ filter. Asks (Mutate cmd target filter)) filter
+    (refused (codes "Bad filter")) ∷ [])
+filter_askable cmd target None = none_askable
+filter_askable cmd target (Some filter) = one_askable (Mutate cmd target filter) (λ is. is)
+
+target_askable : (cmd : Cmd) (object : Members) (target : Option Target)
+    → AreAskable (option_map_or (mutation_of cmd object) target (refused (codes "Bad target")) ∷ [])
+target_askable cmd object None = none_askable
+target_askable cmd object (Some target) = filter_askable cmd target (filter_among object)
+
+cmd_askable : (object : Members) (cmd : Option Cmd)
+    → AreAskable (option_map_or (mutation_by object) cmd (refused (codes "Bad cmd")) ∷ [])
+cmd_askable object None = none_askable
+cmd_askable object (Some cmd) =
+    target_askable cmd object (option_and_then target_named (string_among (codes "target") object))
+
+pub mutate_askable : (found : Option Members)
+    → AreAskable (option_map_or mutation found (refused (codes "Bad JSON")) ∷ [])
+mutate_askable None = none_askable
+mutate_askable (Some members) =
+    cmd_askable members (option_and_then cmd_named (string_among (codes "cmd") members))

@@ -51,7 +51,7 @@ outcomes_due kept moment word =
 abbrev pub filed_in : List Outcome → List (ℕ × Row)
 filed_in all = map (λ one. one.filed) all
 
-filed_leaving : (rows : List (ℕ × Row)) → filed_in (leaving rows) ≡ rows
+pub filed_leaving : (rows : List (ℕ × Row)) → filed_in (leaving rows) ≡ rows
 filed_leaving [] = refl
 filed_leaving (filed ∷ rows) = ap (λ xs. filed ∷ xs) (filed_leaving rows)
 
@@ -61,7 +61,7 @@ filed_failing reason moment word [] = refl
 filed_failing reason moment word (filed ∷ rows) =
     ap (λ xs. filed ∷ xs) (filed_failing reason moment word rows)
 
-filed_entering : (moment n : ℕ) (rows : List (ℕ × Row)) → filed_in (entering moment n rows) ≡ rows
+pub filed_entering : (moment n : ℕ) (rows : List (ℕ × Row)) → filed_in (entering moment n rows) ≡ rows
 filed_entering moment n [] = refl
 filed_entering moment n (filed ∷ rows) = ap (λ xs. filed ∷ xs) (filed_entering moment (n + 1) rows)
 
@@ -79,13 +79,13 @@ filed_due kept moment word =
     ) refl
 
 -- what holds of the rows holds of what becomes of them
-all_filed : (P : ℕ × Row → Type 0) (all : List Outcome) → All P (filed_in all) → All (λ one. P one.filed) all
+pub all_filed : (P : ℕ × Row → Type 0) (all : List Outcome) → All P (filed_in all) → All (λ one. P one.filed) all
 all_filed P [] each = All-nil (λ one. P one.filed)
 all_filed P (one ∷ all) each =
     All-cons (λ x. P x.filed) one all (All-head P one.filed (filed_in all) each)
     (all_filed P all (All-tail P one.filed (filed_in all) each))
 
-pairs_filed : (all : List Outcome) → AllPairs AreOfTwo (filed_in all)
+pub pairs_filed : (all : List Outcome) → AllPairs AreOfTwo (filed_in all)
     → AllPairs (λ one other. ticket_in one ≢ ticket_in other) all
 pairs_filed [] each = λ i j d ahead within. absurd (omega (arith, within))
 pairs_filed (one ∷ all) each =
@@ -112,7 +112,7 @@ ranked_front n m (one ∷ front) back none ranked =
     rw (All-head (λ x. new_rank x.becomes ≡ None) one front none)
     (tt, ranked_front n m front back (All-tail (λ x. new_rank x.becomes ≡ None) one front none) ranked)
 
-ranked_entering : (moment n m : ℕ) (rows : List (ℕ × Row)) → m ≡ n + length rows
+pub ranked_entering : (moment n m : ℕ) (rows : List (ℕ × Row)) → m ≡ n + length rows
     → AreRanked n (entering moment n rows) m
 ranked_entering moment n m [] e = omega (arith, e)
 ranked_entering moment n m (filed ∷ rows) e = (refl, ranked_entering moment (n + 1) m rows (omega (arith, e)))
@@ -171,7 +171,7 @@ entering_all P Q moment n m (filed ∷ rows) room follows each =
     (follows n filed (omega (arith, room)) (All-head Q filed rows each))
     (entering_all P Q moment (n + 1) m rows (omega (arith, room)) follows (All-tail Q filed rows each))
 
-waiting_changes : (moment rank : ℕ) (row : Row) → ¬ IsTrue (is_queued row.place)
+pub waiting_changes : (moment rank : ℕ) (row : Row) → ¬ IsTrue (is_queued row.place)
     → Some (waiting_row moment rank row) ≢ Some row
 waiting_changes moment rank row apart same =
     let there : Some true ≡ Some (is_queued row.place) = ap (option_map (λ (one : Row). is_queued one.place)) same in
@@ -218,7 +218,7 @@ are_outcomes kept moment word well =
 
 -- ---- the moves that tell them
 
-told_leaving : (rows : List (ℕ × Row)) → map told_by (leaving rows) ≡ moves_of_forgotten rows
+pub told_leaving : (rows : List (ℕ × Row)) → map told_by (leaving rows) ≡ moves_of_forgotten rows
 told_leaving [] = refl
 told_leaving (filed ∷ rows) = ap (λ xs. move_for (ticket_of filed) None ∷ xs) (told_leaving rows)
 
@@ -229,7 +229,7 @@ told_failing reason moment word (filed ∷ rows) =
     ap (λ xs. move_for (ticket_of filed) (failed_row reason moment word filed) ∷ xs)
     (told_failing reason moment word rows)
 
-told_entering : (moment n : ℕ) (rows : List (ℕ × Row))
+pub told_entering : (moment n : ℕ) (rows : List (ℕ × Row))
     → map told_by (entering moment n rows) ≡ moves_of_enqueued moment n rows
 told_entering moment n [] = refl
 told_entering moment n (filed ∷ rows) =

@@ -8,7 +8,8 @@ use Rattle.std.proofs.lemmas.List.Elements.{All-nil, All-cons, All-head, All-tai
 use Rattle.std.proofs.lemmas.List.Kept.{AllPairs-cons, AllPairs-filter}
 use Rattle.fk_model.specs.declared.row.Row.{Row}
 use Rattle.fk_model.specs.Rows.{ticket_of, row_of, IsByTicket, filed_at, row_at}
-use Rattle.fk_model.specs.Orders.{number_in, ticket_in, comes_before, with_pair, in_order, with_ticket}
+use Rattle.fk_json.specs.PairOrder.{comes_before, with_pair}
+use Rattle.fk_model.specs.Orders.{number_in, ticket_in, in_order, with_ticket}
 use Rattle.fk_model.specs.Due.{up_to, rows_of}
 use Rattle.fk_model.proofs.Sieves.{all_mapped}
 use Rattle.fk_model.proofs.Sorting.{head_of_all, tail_of_all, joined}
@@ -92,7 +93,7 @@ pairs_given R S h carries (x ∷ xs) all =
     (pairs_given R S h carries xs (tail_of_all R x xs all))
 
 -- two pairs are of different tickets
-abbrev AreApart : ℕ × ℕ → ℕ × ℕ → Type 0
+abbrev pub AreApart : ℕ × ℕ → ℕ × ℕ → Type 0
 AreApart one other = ticket_in one ≢ ticket_in other
 
 parted_step : (test : ℕ × ℕ → Bool) (pair : ℕ × ℕ) (pairs : List (ℕ × ℕ)) (passes : Bool)
@@ -146,23 +147,34 @@ pub rows_apart : (rows : List (ℕ × Row)) → IsByTicket rows → AllPairs Are
 rows_apart rows by_ticket i j d ahead within =
     let lower = lower_pairs rows by_ticket i j d ahead within in omega (arith, lower)
 
-pub chosen_once : (number : Row → Option ℕ) (moment : ℕ) (rows : List (ℕ × Row)) → IsByTicket rows
-    → AllPairs AreOfTwo (chosen number moment rows)
-chosen_once number moment rows by_ticket =
-    pairs_given AreApart AreOfTwo (λ pair. filed_at rows (ticket_in pair))
-    (λ x other y given e f apart. rw (
-      found_ticket rows (ticket_in x) y e,
-      found_ticket rows (ticket_in other) given f,
-    ) apart)
-    (up_to moment (numbered number rows))
-    (AllPairs-filter AreApart (λ pair. not (nat_lt moment (number_in pair))) (numbered number rows)
-    (sorted_apart (filter_map (with_ticket number) rows)
+pub numbered_apart : (number : Row → Option ℕ) (rows : List (ℕ × Row)) → IsByTicket rows
+    → AllPairs AreApart (numbered number rows)
+numbered_apart number rows by_ticket =
+    sorted_apart (filter_map (with_ticket number) rows)
     (pairs_given AreOfTwo AreApart (with_ticket number)
     (λ x other y given e f apart. rw (
       given_ticket (number (row_of x)) (ticket_of x) y e,
       given_ticket (number (row_of other)) (ticket_of other) given f,
     ) apart)
-    rows (rows_apart rows by_ticket))))
+    rows (rows_apart rows by_ticket))
+
+-- pairs of different tickets name rows of different tickets
+pub named_once : (rows : List (ℕ × Row)) (pairs : List (ℕ × ℕ)) → AllPairs AreApart pairs
+    → AllPairs AreOfTwo (rows_of rows pairs)
+named_once rows pairs apart =
+    pairs_given AreApart AreOfTwo (λ pair. filed_at rows (ticket_in pair))
+    (λ x other y given e f of_two. rw (
+      found_ticket rows (ticket_in x) y e,
+      found_ticket rows (ticket_in other) given f,
+    ) of_two)
+    pairs apart
+
+pub chosen_once : (number : Row → Option ℕ) (moment : ℕ) (rows : List (ℕ × Row)) → IsByTicket rows
+    → AllPairs AreOfTwo (chosen number moment rows)
+chosen_once number moment rows by_ticket =
+    named_once rows (up_to moment (numbered number rows))
+    (AllPairs-filter AreApart (λ pair. not (nat_lt moment (number_in pair))) (numbered number rows)
+    (numbered_apart number rows by_ticket))
 
 -- ---- none is forgotten
 
@@ -228,7 +240,7 @@ all_parts P (pair ∷ front) back each =
     (All-cons P pair front (All-head P pair (front ++ back) each) rest.0, rest.1)
 
 -- what holds of each of the sorted pairs holds of each
-all_unsorted : (P : ℕ × ℕ → Type 0) (pairs : List (ℕ × ℕ)) → All P (in_order pairs) → All P pairs
+pub all_unsorted : (P : ℕ × ℕ → Type 0) (pairs : List (ℕ × ℕ)) → All P (in_order pairs) → All P pairs
 unfolding in_order
 all_unsorted P [] each = each
 all_unsorted P (pair ∷ pairs) each =
@@ -252,7 +264,7 @@ given_step P h x xs (Some y) e rest each =
     (rest (All-tail P y (filter_map h xs) all))
 
 -- what holds of all that is given holds of what each element gives
-all_given : (P : ℕ × ℕ → Type 0) (h : ℕ × Row → Option (ℕ × ℕ)) (xs : List (ℕ × Row))
+pub all_given : (P : ℕ × ℕ → Type 0) (h : ℕ × Row → Option (ℕ × ℕ)) (xs : List (ℕ × Row))
     → All P (filter_map h xs) → All (λ x. IfSome (h x) P) xs
 all_given P h [] each = All-nil (λ x. IfSome (h x) P)
 all_given P h (x ∷ xs) each = given_step P h x xs (h x) refl (all_given P h xs) each

@@ -11,7 +11,7 @@ use Rattle.fk_model.specs.declared.move_.Move.TheVariants.{Add, Put, Drop, DropA
 use Rattle.fk_model.specs.Rows.{row_at, with_row, with_changed, without_row}
 use Rattle.fk_model.specs.State.{KeptState}
 use Rattle.fk_model.specs.Changes.{put_row, after_move, after_moves, ComesLast, MayGo, IsAllowed, FitInTurn, IsTotals}
-use Rattle.fk_model.proofs.Leading.{AreRowsOf, HasNumbers, after_both, fit_both}
+use Rattle.fk_model.proofs.Leading.{AreRowsOf, AreRowsBehind, HasNumbers, after_both, fit_both}
 
 -- ---- one move
 
@@ -112,7 +112,7 @@ both_empty [] back none = (refl, none)
 both_empty (move ∷ front) back none = absurd (cc)
 
 pub rows_both : (from mid to : KeptState) (front back : List Move) → AreRowsOf from front mid
-    → AreRowsOf mid back to → (to ≡ from → front ++ back ≡ []) → AreRowsOf from (front ++ back) to
+    → AreRowsBehind from mid back to → (to ≡ from → front ++ back ≡ []) → AreRowsOf from (front ++ back) to
 rows_both from mid to front back first second stays = record {
   rows = second.rows
       ∙ all_rows_alone mid (after_moves from front) back first.rows second.plain
@@ -123,7 +123,7 @@ rows_both from mid to front back first second stays = record {
 }
 
 pub numbers_both : (from mid to : KeptState) (front back : List Move) → AreRowsOf from front mid
-    → AreRowsOf mid back to → HasNumbers from front mid → HasNumbers mid back to
+    → AreRowsBehind from mid back to → HasNumbers from front mid → HasNumbers mid back to
     → HasNumbers from (front ++ back) to
 numbers_both from mid to front back first second one other =
     let same = all_rows_alone mid (after_moves from front) back first.rows second.plain in

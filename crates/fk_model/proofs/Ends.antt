@@ -7,7 +7,8 @@ use Rattle.std.proofs.lemmas.Option.{same_Some}
 use Rattle.std.proofs.lemmas.List.Elements.{All-weaker, filter_passes}
 use Rattle.fk_model.specs.declared.row.Row.{Row}
 use Rattle.fk_model.specs.Rows.{ticket_of, row_of, IsByTicket, row_at, with_row, with_changed, without_row}
-use Rattle.fk_model.specs.Orders.{number_in, ticket_in, with_pair, in_order, with_ticket}
+use Rattle.fk_json.specs.PairOrder.{with_pair}
+use Rattle.fk_model.specs.Orders.{number_in, ticket_in, in_order, with_ticket}
 use Rattle.fk_model.proofs.Sieves.{filter_mapped, all_mapped}
 use Rattle.fk_model.proofs.Rising.{rising_filter}
 use Rattle.fk_model.proofs.Sorting.{are_in_order}

@@ -87,6 +87,24 @@ pub record AreRowsOf (from : KeptState) (moves : List Move) (to : KeptState) : T
   pub stays : to ≡ from → moves ≡ []
   pub plain : All (λ move. ¬ IsTotals move) moves
 
+-- What is known of those of the second of two parts, which begins where the first has led: where neither changes
+-- the kept state, there is none. A second part may have moves and change nothing, if the first has changed it.
+pub record AreRowsBehind (before from : KeptState) (moves : List Move) (to : KeptState) : Type 0 where
+  pub rows : to.rows ≡ (after_moves from moves).rows
+  pub none : moves ≡ [] → to ≡ from
+  pub stays : from ≡ before → to ≡ from → moves ≡ []
+  pub plain : All (λ move. ¬ IsTotals move) moves
+
+-- moves that look at nothing before them
+pub behind : (before : KeptState) {from : KeptState} {moves : List Move} {to : KeptState}
+    → AreRowsOf from moves to → AreRowsBehind before from moves to
+behind before are = record {
+  rows = are.rows;
+  none = are.none;
+  stays = λ same. are.stays;
+  plain = are.plain;
+}
+
 -- and what its numbers are to meet
 pub record HasNumbers (from : KeptState) (moves : List Move) (to : KeptState) : Type 0 where
   pub fit : FitInTurn from moves

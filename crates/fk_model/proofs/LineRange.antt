@@ -20,10 +20,10 @@ use Rattle.fk_model.specs.Commands.{arguments, is_space}
 use Rattle.fk_model.specs.Payloads.{object_read}
 use Rattle.fk_model.specs.Handshake.{welcome}
 use Rattle.fk_model.specs.Range.{HasJsonTexts, IsInRange}
-use Rattle.fk_model.specs.Script.{AreGiven, AreItemsFrom, AreItemsOf, Command, IsGiven, IsScript, ack, batch, beat, command_of, end, ends_talk, fail, fetch, handshake_items, hello, push, signal, speaker_after, talk_from, unknown}
+use Rattle.fk_model.specs.Script.{AreGiven, AreItemsFrom, AreItemsOf, Command, IsGiven, IsScript, ack, batch, beat, command_of, end, ends_talk, fail, fetch, flush, handshake_items, hello, info, mutate, push, signal, speaker_after, talk_from, unknown}
 use Rattle.fk_model.specs.Out.{asks_of}
 use Rattle.fk_model.proofs.Outs.{asks_of-append}
-use Rattle.fk_model.proofs.AskRange.{AreAskable, IsAskable, FitsLine, ack_askable, as_it, batch_askable, beat_askable, fail_askable, fetch_askable, hello_askable, none_askable, push_askable, signal_askable}
+use Rattle.fk_model.proofs.AskRange.{AreAskable, IsAskable, FitsLine, ack_askable, as_it, batch_askable, beat_askable, fail_askable, fetch_askable, flush_askable, hello_askable, info_askable, mutate_askable, none_askable, push_askable, signal_askable}
 use Rattle.fk_model.proofs.Parted.{IsUpTo, behind_up_to, split_up_to}
 
 -- ---- a line
@@ -44,6 +44,9 @@ command_askable wid ack text item is given = as_it item _ given (ack_askable (ob
 command_askable wid fail text item is given = as_it item _ given (fail_askable (object_read text))
 command_askable wid beat text item is given = as_it item _ given (beat_askable (object_read text))
 command_askable wid signal text item is given = as_it item _ given (signal_askable (object_read text))
+command_askable wid info text item is given = as_it item _ given info_askable
+command_askable wid flush text item is given = as_it item _ given flush_askable
+command_askable wid mutate text item is given = as_it item _ given (mutate_askable (object_read text))
 command_askable wid unknown text item is given = as_it item _ given none_askable
 
 -- one thing is given for a line

@@ -3,12 +3,13 @@ use Rattle.std.proofs.Common.{◌≡◌, refl, ℕ, ◌<◌, List, [], ◌∷◌
 use Rattle.std.specs.Prelude.{if◌then◌else◌, Option, None, Some, nat_lt}
 use Rattle.std.specs.Option.{option_map_or}
 use Rattle.std.proofs.lemmas.Bool.Decides.{nat_tests}
+use Rattle.std.proofs.lemmas.List.Elements.{All-nil}
 use Rattle.fk_time.specs.Moments.{greatest}
 use Rattle.fk_job.specs.declared.job.Job.{Job}
 use Rattle.fk_model.specs.declared.row.Row.{Row}
 use Rattle.fk_model.specs.declared.place.Place.TheVariants.{Queued, Scheduled}
 use Rattle.fk_model.specs.declared.ask.Ask.{Ask}
-use Rattle.fk_model.specs.declared.ask.Ask.TheVariants.{Push, PushBatch, Fetch, Ack, Fail}
+use Rattle.fk_model.specs.declared.ask.Ask.TheVariants.{Push, PushBatch, Fetch, Ack, Fail, Flush, Mutate}
 use Rattle.fk_model.specs.Rows.{ticket_of, row_of}
 use Rattle.fk_model.specs.State.{KeptState, State}
 use Rattle.fk_model.specs.Orders.{leased}
@@ -16,12 +17,15 @@ use Rattle.fk_model.specs.Between.{IsBetweenTurns}
 use Rattle.fk_model.specs.Due.{IsUpToDate}
 use Rattle.fk_model.specs.Failing.{Reason, failed_row, failed}
 use Rattle.fk_model.specs.Requests.{due_at, is_later, pushed_row, pushed, all_pushed, fetched, reserved_row, finished}
+use Rattle.fk_model.specs.Mutated.{taken}
 use Rattle.fk_model.specs.Said.{kept_and_said, only_said, ok, unknown_job, said}
 use Rattle.fk_model.specs.Turns.{up_to_date, turn}
 use Rattle.fk_model.proofs.Tickets.{all_with, all_without, all_changed, row_holds}
 use Rattle.fk_model.proofs.Orderly.{HasJob, IsOrderly}
 use Rattle.fk_model.proofs.Waiting.{IsFirstRow}
 use Rattle.fk_model.proofs.Requested.{fetched_is, after_fetch}
+use Rattle.fk_model.proofs.OfSets.{taken_are}
+use Rattle.fk_model.proofs.MutateMoves.{mutated_on}
 use Rattle.fk_model.proofs.Outcomes.{outcome_all}
 use Rattle.fk_model.proofs.Settling.{IsLater}
 use Rattle.fk_model.proofs.Fates.{failed_on}
@@ -92,6 +96,10 @@ said_on s (Ack jid) moment word well told on = ack_on moment s.kept (leased s.ke
 said_on s (Fail jid errtype message backtrace) moment word well told on =
     fail_on s (record { errtype = errtype; message = message; backtrace = backtrace }) moment word
     (leased s.kept jid) told on
+said_on s Flush moment word well told on = All-nil (IsOn moment)
+said_on s (Mutate cmd target filter) moment word well told on =
+    mutated_on cmd moment s.kept (taken cmd target filter s.kept) well told
+    (taken_are cmd target filter s.kept well.by_ticket) on
 said_on s other moment word well told on = on
 
 -- and so does a turn

@@ -5,7 +5,8 @@ use Rattle.std.specs.Prelude.{Option, None, Some, filter_map}
 use Rattle.std.proofs.lemmas.List.Elements.{filter_map-append}
 use Rattle.fk_model.specs.declared.row.Row.{Row}
 use Rattle.fk_model.specs.Rows.{IsByTicket, row_at, with_row, with_changed, without_row}
-use Rattle.fk_model.specs.Orders.{with_pair, in_order, with_ticket}
+use Rattle.fk_json.specs.PairOrder.{with_pair}
+use Rattle.fk_model.specs.Orders.{in_order, with_ticket}
 use Rattle.fk_model.proofs.Insertion.{sorted_around}
 use Rattle.fk_model.proofs.Cuts.{below, above}
 use Rattle.fk_model.proofs.Filed.{without_parts, without_none, standing, changed_at}

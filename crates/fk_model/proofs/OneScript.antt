@@ -18,7 +18,7 @@ use Rattle.fk_model.specs.declared.item.Item.{Item}
 use Rattle.fk_model.specs.declared.item.Item.TheVariants.{Asks}
 use Rattle.fk_model.specs.Commands.{arguments}
 use Rattle.fk_model.specs.Payloads.{AreElements, Element, HasKey, IsBatch, IsElement, IsPushed, barred, batch_text, fault_text, jobs_among, refused, taken}
-use Rattle.fk_model.specs.Script.{AreGiven, AreItemsFrom, AreItemsOf, Command, IsGiven, IsScript, ack, batch, beat, command_of, end, fail, fetch, hello, push, signal, speaker_after, talk_from, unknown}
+use Rattle.fk_model.specs.Script.{AreGiven, AreItemsFrom, AreItemsOf, Command, IsGiven, IsScript, ack, batch, beat, command_of, end, fail, fetch, flush, hello, info, mutate, push, signal, speaker_after, talk_from, unknown}
 use Rattle.fk_model.proofs.Payload.{laws}
 use Rattle.fk_model.proofs.Total.{script_total}
 
@@ -108,6 +108,9 @@ given_one wid ack text one other is also = is ∙ sym also
 given_one wid fail text one other is also = is ∙ sym also
 given_one wid beat text one other is also = is ∙ sym also
 given_one wid signal text one other is also = is ∙ sym also
+given_one wid info text one other is also = is ∙ sym also
+given_one wid flush text one other is also = is ∙ sym also
+given_one wid mutate text one other is also = is ∙ sym also
 given_one wid unknown text one other is also = is ∙ sym also
 
 -- one thing is given for a line

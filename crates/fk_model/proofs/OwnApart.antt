@@ -12,8 +12,11 @@ use Rattle.fk_frame.specs.Lines.{lines_of}
 use Rattle.fk_frame.specs.Replies.{reply_bytes}
 use Rattle.fk_job.specs.declared.fault.JobFault.{JobFault}
 use Rattle.fk_job.specs.declared.fault.JobFault.TheVariants.{NoJid, ShortJid, NoType, NoArgs, BadQueue, BadReserve, BadRetry, BadAt, Syntax, TooDeep, NoMemory}
-use Rattle.fk_model.specs.declared.ask.Ask.TheVariants.{Hello, Ack, Fail, Beat, Signal}
+use Rattle.fk_model.specs.declared.ask.Ask.TheVariants.{Hello, Ack, Fail, Beat, Signal, Mutate}
 use Rattle.fk_model.specs.declared.gate.Gate.{Gate}
+use Rattle.fk_model.specs.declared.mutation.Cmd.{Cmd}
+use Rattle.fk_model.specs.declared.mutation.Filter.{Filter}
+use Rattle.fk_model.specs.declared.mutation.Target.{Target}
 use Rattle.fk_model.specs.declared.work_state.WorkState.{WorkState}
 use Rattle.fk_model.specs.declared.item.Item.{Item}
 use Rattle.fk_model.specs.declared.item.Item.TheVariants.{Own, Asks}
@@ -21,8 +24,9 @@ use Rattle.fk_model.specs.Answers.{IsToldApart}
 use Rattle.fk_model.specs.Commands.{arguments}
 use Rattle.fk_model.specs.Out.{own_replies}
 use Rattle.fk_model.specs.Payloads.{IsBatch, IsPushed, accepted, acknowledged, beat as beat_item, fault_text, is_some_text, object_read, refused, reported, signal as signal_item, signal_to, state_named, string_among, string_or_unknown, strings_among}
+use Rattle.fk_model.specs.Mutations.{cmd_named, filter_among, mutation, mutation_by, mutation_of, target_named}
 use Rattle.fk_model.specs.Handshake.{has_version, let_in, opens, turned_away, welcome_of, wid_said}
-use Rattle.fk_model.specs.Script.{AreGiven, AreItemsFrom, AreItemsOf, Command, IsGiven, IsScript, ack, batch, beat, command_of, end, fail, fetch, handshake_items, hello, hello_first, hello_item, push, signal, speaker_after, talk_from, too_long, unknown}
+use Rattle.fk_model.specs.Script.{AreGiven, AreItemsFrom, AreItemsOf, Command, IsGiven, IsScript, ack, batch, beat, command_of, end, fail, fetch, flush, handshake_items, hello, hello_first, hello_item, info, mutate, push, signal, speaker_after, talk_from, too_long, unknown}
 use Rattle.fk_model.proofs.Outs.{own_replies-append}
 use Rattle.fk_model.proofs.ToldApart.{a_status, an_error}
 
@@ -134,6 +138,29 @@ a_signal : (found : Option Members)
 a_signal None = bad_json
 a_signal (Some members) = a_signal_to members (string_among (codes "wid") members)
 
+-- ---- a MUTATE
+
+a_filter : (cmd : Cmd) (target : Target) (filter : Option Filter)
+    → AreApart (option_map_or (λ filter. Asks (Mutate cmd target filter)) filter
+    (refused (codes "Bad filter")) ∷ [])
+a_filter cmd target None = by_byte (codes "Bad filter") 66 refl (omega arith) (omega arith) (omega arith)
+a_filter cmd target (Some filter) = All-nil IsToldApart
+
+a_target : (cmd : Cmd) (object : Members) (target : Option Target)
+    → AreApart (option_map_or (mutation_of cmd object) target (refused (codes "Bad target")) ∷ [])
+a_target cmd object None = by_byte (codes "Bad target") 66 refl (omega arith) (omega arith) (omega arith)
+a_target cmd object (Some target) = a_filter cmd target (filter_among object)
+
+a_cmd : (object : Members) (cmd : Option Cmd)
+    → AreApart (option_map_or (mutation_by object) cmd (refused (codes "Bad cmd")) ∷ [])
+a_cmd object None = by_byte (codes "Bad cmd") 66 refl (omega arith) (omega arith) (omega arith)
+a_cmd object (Some cmd) = a_target cmd object (option_and_then target_named (string_among (codes "target") object))
+
+a_mutate : (found : Option Members)
+    → AreApart (option_map_or mutation found (refused (codes "Bad JSON")) ∷ [])
+a_mutate None = bad_json
+a_mutate (Some members) = a_cmd members (option_and_then cmd_named (string_among (codes "cmd") members))
+
 -- ---- a HELLO
 
 bad_hello : AreApart (refused (codes "Bad HELLO") ∷ [])
@@ -188,6 +215,9 @@ a_command wid ack text item is = as_it item _ is (an_ack (object_read text))
 a_command wid fail text item is = as_it item _ is (a_fail (object_read text))
 a_command wid beat text item is = as_it item _ is (a_beat (object_read text))
 a_command wid signal text item is = as_it item _ is (a_signal (object_read text))
+a_command wid info text item is = as_it item _ is (All-nil IsToldApart)
+a_command wid flush text item is = as_it item _ is (All-nil IsToldApart)
+a_command wid mutate text item is = as_it item _ is (a_mutate (object_read text))
 a_command wid unknown text item is =
     as_it item _ is (by_byte (codes "Unknown command") 85 refl (omega arith) (omega arith) (omega arith))
 

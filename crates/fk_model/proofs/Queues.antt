@@ -3,7 +3,8 @@ use Rattle.std.proofs.Common.{◌≡◌, ◌∙◌, ap, refl, ℕ, ◌<◌, List
 use Rattle.std.specs.Prelude.{All, if◌then◌else◌, Option, None, Some, IfSome, option_map, slice_get, slice_index_or, bytes_eq}
 use Rattle.fk_model.specs.declared.row.Row.{Row}
 use Rattle.fk_model.specs.Rows.{row_of, IsByTicket, row_at, with_row, with_changed, without_row}
-use Rattle.fk_model.specs.Orders.{number_in, ticket_in, with_pair, rank_of, rank_in, queue}
+use Rattle.fk_json.specs.PairOrder.{with_pair}
+use Rattle.fk_model.specs.Orders.{number_in, ticket_in, rank_of, rank_in, queue}
 use Rattle.fk_model.proofs.Numbered.{gained, numbered_new, numbered_changed, numbered_stays, numbered_none_less}
 use Rattle.fk_model.proofs.Ends.{numbered_without, numbered_last, changed_last, numbered_first, first_leaves, numbers_hold, is_of_other}
 

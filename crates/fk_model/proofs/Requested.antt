@@ -7,7 +7,7 @@ use Rattle.fk_time.specs.Moments.{greatest}
 use Rattle.fk_frame.specs.declared.reply.Reply.TheVariants.{Nil}
 use Rattle.fk_model.specs.declared.row.Row.{Row}
 use Rattle.fk_model.specs.declared.ask.Ask.{Ask}
-use Rattle.fk_model.specs.declared.ask.Ask.TheVariants.{Push, PushBatch, Fetch, Ack, Fail}
+use Rattle.fk_model.specs.declared.ask.Ask.TheVariants.{Push, PushBatch, Fetch, Ack, Fail, Flush, Mutate}
 use Rattle.fk_model.specs.declared.move_.Move.{Move}
 use Rattle.fk_model.specs.declared.move_.Move.TheVariants.{Drop}
 use Rattle.fk_model.specs.Limits.{greatest_next}
@@ -18,12 +18,16 @@ use Rattle.fk_job.specs.Spellings.{HasJobSpelling, IsText}
 use Rattle.fk_model.specs.Between.{IsWellKept}
 use Rattle.fk_model.specs.Range.{IsInRange}
 use Rattle.fk_model.specs.Requests.{is_held_back, fetched, finished}
+use Rattle.fk_model.specs.Mutated.{taken}
 use Rattle.fk_model.specs.Said.{only_said, handed_out, said}
 use Rattle.fk_model.specs.Turns.{moves_of}
 use Rattle.fk_model.proofs.Orderly.{IsOrderly, orderly}
-use Rattle.fk_model.proofs.Leading.{AreRowsOf, HasNumbers}
+use Rattle.fk_model.proofs.Leading.{AreRowsOf, AreRowsBehind, HasNumbers, behind}
 use Rattle.fk_model.proofs.Pushes.{pushes_are_rows, pushes_have_numbers}
 use Rattle.fk_model.proofs.Waiting.{IsFirstRow, first_waiting_is, IsLeased, leased_is}
+use Rattle.fk_model.proofs.OfSets.{taken_are}
+use Rattle.fk_model.proofs.MutateMoves.{mutated_are_rows, mutated_has_numbers}
+use Rattle.fk_model.proofs.Flushing.{IsFromNothing, flush_are_rows, flush_has_numbers}
 use Rattle.fk_model.proofs.FailMoves.{fail_rows, fail_numbers, fail_next}
 use Rattle.fk_model.proofs.Effects.{nothing_is_rows, nothing_has_numbers, handing, handed_are_rows, handed_have_numbers, finished_are_rows, finished_have_numbers}
 
@@ -67,18 +71,25 @@ ack_rows kept None held = nothing_is_rows kept
 ack_rows kept (Some filed) held = finished_are_rows kept filed (held filed refl)
 
 pub rows_of : (before : KeptState) (s : State) (ask : Ask) (moment word : ℕ) → IsOrderly s.kept
-    → AreRowsOf s.kept (moves_of before s ask moment word) (said s ask moment word).state.kept
+    → IsFromNothing before s.kept
+    → AreRowsBehind before s.kept (moves_of before s ask moment word) (said s ask moment word).state.kept
 unfolding said moves_of
-rows_of before s (Push job) moment word well = pushes_are_rows moment (job ∷ []) s.kept
-rows_of before s (PushBatch jobs told) moment word well = pushes_are_rows moment jobs s.kept
-rows_of before s (Fetch wid queues) moment word well =
-    fetch_rows s moment wid (fetched s wid queues) well
-    (λ filed at. fetched_is s wid queues filed well at)
-rows_of before s (Ack jid) moment word well =
-    ack_rows s.kept (leased s.kept jid) (λ filed at. leased_is s.kept jid filed well.by_ticket at)
-rows_of before s (Fail jid errtype message backtrace) moment word well =
-    fail_rows s jid (record { errtype = errtype; message = message; backtrace = backtrace }) moment word well
-rows_of before s other moment word well = nothing_is_rows s.kept
+rows_of before s Flush moment word well from = flush_are_rows before s.kept from
+rows_of before s (Push job) moment word well from = behind before (pushes_are_rows moment (job ∷ []) s.kept)
+rows_of before s (PushBatch jobs told) moment word well from = behind before (pushes_are_rows moment jobs s.kept)
+rows_of before s (Fetch wid queues) moment word well from =
+    behind before (fetch_rows s moment wid (fetched s wid queues) well
+    (λ filed at. fetched_is s wid queues filed well at))
+rows_of before s (Ack jid) moment word well from =
+    behind before (ack_rows s.kept (leased s.kept jid)
+    (λ filed at. leased_is s.kept jid filed well.by_ticket at))
+rows_of before s (Fail jid errtype message backtrace) moment word well from =
+    behind before (fail_rows s jid (record { errtype = errtype; message = message; backtrace = backtrace })
+    moment word well)
+rows_of before s (Mutate cmd target filter) moment word well from =
+    behind before (mutated_are_rows cmd moment s.kept (taken cmd target filter s.kept) well
+    (taken_are cmd target filter s.kept well.by_ticket))
+rows_of before s other moment word well from = behind before (nothing_is_rows s.kept)
 
 -- ---- and the numbers that they lead to
 
@@ -119,4 +130,8 @@ numbers_of before s (Fail jid errtype message backtrace) moment word well range 
     fail_numbers s jid (record { errtype = errtype; message = message; backtrace = backtrace }) moment word well
     (record { errtype = range.1; message = range.2; backtrace = range.3 }) within
     (rw (← fail_next s jid (record { errtype = errtype; message = message; backtrace = backtrace }) moment word) room)
+numbers_of before s Flush moment word well range within room = flush_has_numbers before s.kept well room
+numbers_of before s (Mutate cmd target filter) moment word well range within room =
+    mutated_has_numbers cmd moment s.kept (taken cmd target filter s.kept) well within room
+    (taken_are cmd target filter s.kept well.by_ticket)
 numbers_of before s other moment word well range within room = nothing_has_numbers s.kept well room

@@ -5,7 +5,8 @@ use Rattle.std.specs.List.Sorted.{IsPermutation}
 use Rattle.std.proofs.lemmas.Bool.Decides.{nat_tests}
 use Rattle.std.proofs.lemmas.List.Sums.{sum_by-append, sum_by-cons}
 use Rattle.std.proofs.lemmas.List.Sorted.{sum_by-IsPermutation}
-use Rattle.fk_model.specs.Orders.{number_in, ticket_in, with_pair, in_order}
+use Rattle.fk_json.specs.PairOrder.{with_pair}
+use Rattle.fk_model.specs.Orders.{number_in, ticket_in, in_order}
 use Rattle.fk_model.proofs.Insertion.{same_pair, sorted_around}
 
 -- one for each that passes

@@ -1,7 +1,8 @@
 -- Rows that become others or leave, one behind the other and each once: the moves that tell it fit and lead
 -- to those rows, and nothing is due that wasn't among them.
-use Rattle.std.proofs.Common.{◌≡◌, ◌≢◌, ◌⊎◌, ◌∙◌, sym, ap, refl, ℕ, ◌<◌, List, [], ◌∷◌, inl, inr, map, true, false}
+use Rattle.std.proofs.Common.{◌≡◌, ◌≢◌, ◌⊎◌, ◌∙◌, sym, ap, refl, ℕ, ◌<◌, List, [], ◌∷◌, inl, inr, map, true, false, arith}
 use Rattle.std.specs.Prelude.{All, AllPairs, None, Some, IfSome, IsTrue, fold, slice_index_or}
+use Rattle.std.proofs.lemmas.Bool.Decides.{nat_tests}
 use Rattle.std.proofs.lemmas.Option.{IfSome_then}
 use Rattle.std.proofs.lemmas.List.Elements.{All-head, All-tail}
 use Rattle.fk_model.specs.declared.row.Row.{Row}
@@ -187,3 +188,37 @@ outcomes_change n m rows one all are same =
     let before = All-head (λ x. row_at rows (ticket_in x) ≡ Some (row_in x)) one all are.stand in
     (All-head IsLawful one all are.lawful).changes
     (sym (first_becomes n m rows one all are) ∙ ap (λ xs. row_at xs (ticket_in one)) same ∙ before)
+
+-- ---- what stands under a ticket then
+
+-- a ticket is that of one of them, and its row has become what is told of it
+pub record HasBecome (P : Outcome → Type 0) (after : List (ℕ × Row)) (ticket : ℕ) : Type 0 where
+  pub one : Outcome
+  pub is : P one
+  pub here : ticket ≡ ticket_in one
+  pub became : row_at after ticket ≡ one.becomes
+
+either_ticket : (a b : ℕ) → (a ≡ b) ⊎ (a ≢ b)
+either_ticket a b = grind (arith, nat_tests)
+
+-- each row stays as it is, or is that of one of them
+pub outcomes_at : (P : Outcome → Type 0) (n m : ℕ) (rows : List (ℕ × Row)) (all : List Outcome) (ticket : ℕ)
+    → AreOutcomes n m rows all → All P all
+    → (row_at (fold rows_with rows all) ticket ≡ row_at rows ticket)
+    ⊎ HasBecome P (fold rows_with rows all) ticket
+outcomes_at P n m rows [] ticket are each = inl refl
+outcomes_at P n m rows (one ∷ all) ticket are each =
+    let rest = outcomes_at P (behind_rank n (new_rank one.becomes)) m (rows_with rows one) all ticket
+    (rest_of n m rows one all are) (All-tail P one all each) in
+    elim (either_ticket ticket (ticket_in one)) [
+      | inl same ↦ inr (record {
+        one = one;
+        is = All-head P one all each;
+        here = same;
+        became = rw same (first_becomes n m rows one all are);
+      })
+      | inr other ↦ elim rest [
+        | inl stays ↦ inl (stays ∙ outcome_other rows (ticket_in one) one.becomes ticket are.by_ticket other)
+        | inr became ↦ inr became
+      ]
+    ]

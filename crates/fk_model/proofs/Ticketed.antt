@@ -9,7 +9,8 @@ use Rattle.std.proofs.lemmas.List.Elements.{All-weaker, filter-append, filter_ma
 use Rattle.std.proofs.lemmas.List.Kept.{AllPairs-cons}
 use Rattle.fk_model.specs.declared.row.Row.{Row}
 use Rattle.fk_model.specs.Rows.{ticket_of, row_of, IsByTicket, row_at, with_row, with_changed, without_row}
-use Rattle.fk_model.specs.Orders.{number_in, ticket_in, comes_before, with_pair}
+use Rattle.fk_json.specs.PairOrder.{comes_before, with_pair}
+use Rattle.fk_model.specs.Orders.{number_in, ticket_in}
 use Rattle.fk_model.proofs.Sieves.{filter_all, filter_none, filter_past, filter_mapped, all_mapped}
 use Rattle.fk_model.proofs.Rising.{IsUnder, by_rising_pairs}
 use Rattle.fk_model.proofs.Sorting.{head_of_all, tail_of_all}

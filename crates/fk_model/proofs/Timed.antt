@@ -4,7 +4,8 @@ use Rattle.std.specs.Prelude.{Option, None, Some}
 use Rattle.fk_model.specs.declared.row.Row.{Row}
 use Rattle.fk_model.specs.declared.mutation.Target.{Target}
 use Rattle.fk_model.specs.Rows.{IsByTicket, row_at, with_row, with_changed, without_row}
-use Rattle.fk_model.specs.Orders.{with_pair, moment_in, timed}
+use Rattle.fk_json.specs.PairOrder.{with_pair}
+use Rattle.fk_model.specs.Orders.{moment_in, timed}
 use Rattle.fk_model.proofs.Numbered.{gained, numbered_new, numbered_changed, numbered_stays, numbered_none_less}
 use Rattle.fk_model.proofs.Ends.{numbered_without, is_of_other}
 

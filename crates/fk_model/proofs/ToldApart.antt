@@ -7,7 +7,7 @@ use Rattle.fk_frame.specs.declared.reply.Reply.TheVariants.{Status, Bulk, Nil}
 use Rattle.fk_frame.specs.Replies.{reply_bytes}
 use Rattle.fk_model.specs.declared.row.Row.{Row}
 use Rattle.fk_model.specs.declared.ask.Ask.{Ask}
-use Rattle.fk_model.specs.declared.ask.Ask.TheVariants.{Hello, Push, PushBatch, Fetch, Ack, Fail, Beat, Signal, Tick}
+use Rattle.fk_model.specs.declared.ask.Ask.TheVariants.{Hello, Push, PushBatch, Fetch, Ack, Fail, Beat, Signal, Info, Flush, Mutate, Tick}
 use Rattle.fk_model.specs.declared.work_state.WorkState.{WorkState}
 use Rattle.fk_model.specs.declared.work_state.WorkState.TheVariants.{Running, Quiet, Terminate}
 use Rattle.fk_job.specs.RowText.{row_text}
@@ -17,7 +17,8 @@ use Rattle.fk_model.specs.Orders.{leased}
 use Rattle.fk_model.specs.Failing.{Reason, failed}
 use Rattle.fk_model.specs.Requests.{fetched}
 use Rattle.fk_model.specs.Workers.{state_of}
-use Rattle.fk_model.specs.Said.{not_served, only_said, kept_and_said, handed_out, ok, unknown_job, unknown_worker, state_told, said}
+use Rattle.fk_model.specs.Info.{info_text}
+use Rattle.fk_model.specs.Said.{only_said, kept_and_said, handed_out, ok, unknown_job, unknown_worker, state_told, said}
 use Rattle.fk_model.specs.Turns.{up_to_date, turn}
 use Rattle.fk_model.specs.Answers.{turn_texts, IsToldApart}
 
@@ -51,9 +52,6 @@ a_bulk text c = begins_otherwise _ c.0 (λ e. let same : 36 ≡ 45 = e in omega 
 
 no_value : IsToldApart Nil
 no_value c = begins_otherwise _ c.0 (λ e. let same : 36 ≡ 45 = e in omega (arith, same)) c.1 c.2
-
-what_is_not_served : IsToldApart not_served
-what_is_not_served = an_error not_served 78 refl (omega arith) (omega arith) (omega arith)
 
 -- a fetch says the text of a row, or Nil
 a_fetch : (s : State) (moment : ℕ) (wid : List ℕ) (row : Option (ℕ × Row))
@@ -92,8 +90,10 @@ what_is_said s (Fail jid errtype message backtrace) moment word =
     (leased s.kept jid)
 what_is_said s (Beat wid) moment word = a_state (state_of wid s.workers)
 what_is_said s (Signal wid given) moment word = a_signal (state_of wid s.workers)
+what_is_said s Info moment word = a_bulk (info_text s.kept moment)
+what_is_said s Flush moment word = a_status (codes "OK")
+what_is_said s (Mutate cmd target filter) moment word = a_status (codes "OK")
 what_is_said s Tick moment word = a_status (codes "OK")
-what_is_said s other moment word = what_is_not_served
 
 pub a_turn : (s : State) (ask : Ask) (moment word : ℕ) → IsToldApart (turn s ask moment word).reply
 a_turn s ask moment word = what_is_said (up_to_date s moment word) ask moment word

@@ -13,13 +13,14 @@ use Rattle.fk_job.specs.declared.fault.JobFault.{JobFault}
 use Rattle.fk_job.specs.declared.job.Job.{Job}
 use Rattle.fk_job.specs.JobText.{HasFault, HasJid, IsJobOf}
 use Rattle.fk_job.specs.Members.{value_of}
-use Rattle.fk_model.specs.declared.ask.Ask.TheVariants.{Push, PushBatch, Fetch}
+use Rattle.fk_model.specs.declared.ask.Ask.TheVariants.{Push, PushBatch, Fetch, Info, Flush}
 use Rattle.fk_model.specs.declared.gate.Gate.{Gate}
 use Rattle.fk_model.specs.declared.item.Item.{Item}
 use Rattle.fk_model.specs.declared.item.Item.TheVariants.{Asks}
 use Rattle.fk_model.specs.Commands.{arguments}
 use Rattle.fk_model.specs.Payloads.{Element, taken, barred, fault_text, refused, acknowledged, reported, batch_text, jobs_among, object_read, queue_names, HasKey, IsElement, AreElements, IsPushed, IsBatch, beat as beat_item, signal as signal_item}
-use Rattle.fk_model.specs.Script.{Command, end, hello, push, batch, fetch, ack, fail, beat, signal, unknown, command_of, handshake_items, too_long, speaker_after, AreGiven, AreItemsOf, AreItemsFrom}
+use Rattle.fk_model.specs.Mutations.{mutation}
+use Rattle.fk_model.specs.Script.{Command, end, hello, push, batch, fetch, ack, fail, beat, signal, info, flush, mutate, unknown, command_of, handshake_items, too_long, speaker_after, AreGiven, AreItemsOf, AreItemsFrom}
 
 -- ---- what is decided of texts
 
@@ -149,6 +150,11 @@ given_total laws wid beat arguments =
     (item ∷ [], (item, refl, refl))
 given_total laws wid signal arguments =
     let item = option_map_or signal_item (object_read arguments) (refused (codes "Bad JSON")) in
+    (item ∷ [], (item, refl, refl))
+given_total laws wid info arguments = (Asks Info ∷ [], (Asks Info, refl, refl))
+given_total laws wid flush arguments = (Asks Flush ∷ [], (Asks Flush, refl, refl))
+given_total laws wid mutate arguments =
+    let item = option_map_or mutation (object_read arguments) (refused (codes "Bad JSON")) in
     (item ∷ [], (item, refl, refl))
 given_total laws wid unknown arguments =
     let reply = refused (codes "Unknown command") in (reply ∷ [], (reply, refl, refl))

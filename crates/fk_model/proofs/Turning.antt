@@ -5,7 +5,7 @@ use Rattle.std.specs.Option.{option_map_or}
 use Rattle.fk_time.specs.Moments.{greatest}
 use Rattle.fk_model.specs.declared.row.Row.{Row}
 use Rattle.fk_model.specs.declared.ask.Ask.{Ask}
-use Rattle.fk_model.specs.declared.ask.Ask.TheVariants.{Push, PushBatch, Fetch, Ack, Fail}
+use Rattle.fk_model.specs.declared.ask.Ask.TheVariants.{Push, PushBatch, Fetch, Ack, Fail, Mutate}
 use Rattle.fk_model.specs.declared.move_.Move.{Move}
 use Rattle.fk_model.specs.Limits.{greatest_next}
 use Rattle.fk_model.specs.State.{KeptState, State}
@@ -16,12 +16,15 @@ use Rattle.fk_model.specs.Changes.{after_moves, Lead, EndsWithTotals}
 use Rattle.fk_model.specs.Failing.{Reason, failed}
 use Rattle.fk_model.specs.Bringing.{brought_up, moves_up}
 use Rattle.fk_model.specs.Requests.{fetched, finished}
+use Rattle.fk_model.specs.Mutated.{taken}
 use Rattle.fk_model.specs.Workers.{acted, after_turn, AreApart}
 use Rattle.fk_model.specs.Said.{kept_and_said, only_said, ok, unknown_job, said}
 use Rattle.fk_model.specs.Turns.{up_to_date, turn, moves_of, moves_of_turn}
 use Rattle.fk_model.specs.History.{IsOverLimit}
-use Rattle.fk_model.proofs.Leading.{AreRowsOf, HasNumbers, closed_come, closed_ends, closed_leads, closed_stays, closed_well}
+use Rattle.fk_model.proofs.Leading.{AreRowsOf, AreRowsBehind, HasNumbers, closed_come, closed_ends, closed_leads, closed_stays, closed_well}
 use Rattle.fk_model.proofs.Pushes.{pushes_grow}
+use Rattle.fk_model.proofs.Mutating.{mutated_counts, number_grows}
+use Rattle.fk_model.proofs.Flushing.{nothing_up}
 use Rattle.fk_model.proofs.FailMoves.{fail_next}
 use Rattle.fk_model.proofs.Requested.{rows_of, numbers_of, after_fetch}
 use Rattle.fk_model.proofs.UpToDate.{up_are_rows, up_has_numbers, up_orderly}
@@ -42,7 +45,7 @@ ack_next kept None = refl
 ack_next kept (Some filed) = refl
 
 -- a request doesn't lower it
-next_grows : (s : State) (ask : Ask) (moment word : ℕ) → s.kept.next ≤ (said s ask moment word).state.kept.next
+pub next_grows : (s : State) (ask : Ask) (moment word : ℕ) → s.kept.next ≤ (said s ask moment word).state.kept.next
 unfolding said
 next_grows s (Push job) moment word = omega arith
 next_grows s (PushBatch jobs told) moment word = pushes_grow moment jobs s.kept
@@ -53,6 +56,10 @@ next_grows s (Ack jid) moment word =
 next_grows s (Fail jid errtype message backtrace) moment word =
     let same = fail_next s jid (record { errtype = errtype; message = message; backtrace = backtrace }) moment
     word in omega (arith, same)
+next_grows s (Mutate cmd target filter) moment word =
+    let rows = taken cmd target filter s.kept in
+    let next = (mutated_counts cmd moment s.kept rows).next in
+    let grown = number_grows cmd s.kept.next rows in omega (arith, next, grown)
 next_grows s other moment word = omega arith
 
 -- ---- the state that is up to date
@@ -77,10 +84,11 @@ parts_of s ask moment word =
     moves_up s.kept moment word ++ moves_of s.kept (up_to_date s moment word) ask moment word
 
 said_rows : (s : State) (ask : Ask) (moment word : ℕ) → IsWellKept s.kept
-    → AreRowsOf (brought_up s.kept moment word) (moves_of s.kept (up_to_date s moment word) ask moment word)
-    (turn s ask moment word).state.kept
+    → AreRowsBehind s.kept (brought_up s.kept moment word)
+    (moves_of s.kept (up_to_date s moment word) ask moment word) (turn s ask moment word).state.kept
 said_rows s ask moment word well =
     rows_of s.kept (up_to_date s moment word) ask moment word (up_orderly s.kept moment word well)
+    (nothing_up s.kept moment word)
 
 turn_rows : (s : State) (ask : Ask) (moment word : ℕ) → IsWellKept s.kept
     → AreRowsOf s.kept (parts_of s ask moment word) (turn s ask moment word).state.kept

@@ -32,7 +32,7 @@ fold_both : {X Y : Type 0} (step : X → Y → X) (from : X) (front back : List 
 fold_both step from [] back = refl
 fold_both step from (y ∷ front) back = fold_both step (step from y) front back
 
-forgotten_is : (kept : KeptState) (rows : List (ℕ × Row))
+pub forgotten_is : (kept : KeptState) (rows : List (ℕ × Row))
     → fold forgotten kept rows ≡ record kept { rows = fold rows_with kept.rows (leaving rows) }
 forgotten_is kept [] = refl
 forgotten_is kept (filed ∷ rows) = forgotten_is (forgotten kept filed) rows
@@ -58,12 +58,12 @@ failed_words reason moment word kept [] processed failures = (processed, failure
 failed_words reason moment word kept (filed ∷ rows) processed failures =
     failed_words reason moment word (failed reason moment word kept filed) rows (omega arith) (omega arith)
 
-enqueued_rows : (moment : ℕ) (kept : KeptState) (rows : List (ℕ × Row))
+pub enqueued_rows : (moment : ℕ) (kept : KeptState) (rows : List (ℕ × Row))
     → (fold (enqueued moment) kept rows).rows ≡ fold rows_with kept.rows (entering moment kept.next rows)
 enqueued_rows moment kept [] = refl
 enqueued_rows moment kept (filed ∷ rows) = enqueued_rows moment (enqueued moment kept filed) rows
 
-enqueued_numbers : (moment n : ℕ) (kept : KeptState) (rows : List (ℕ × Row)) → n ≡ kept.next + length rows
+pub enqueued_numbers : (moment n : ℕ) (kept : KeptState) (rows : List (ℕ × Row)) → n ≡ kept.next + length rows
     → ((fold (enqueued moment) kept rows).next ≡ n)
     × ((fold (enqueued moment) kept rows).processed ≡ kept.processed)
     × ((fold (enqueued moment) kept rows).failures ≡ kept.failures)
@@ -204,7 +204,7 @@ due_spelled kept moment word well told room =
       },
     )) (each_chosen wait_moment moment kept.rows well.by_ticket))
 
-due_on : (kept : KeptState) (moment word : ℕ) → IsWellKept kept → moment < greatest
+pub due_on : (kept : KeptState) (moment word : ℕ) → IsWellKept kept → moment < greatest
     → All (StaysOn moment) (outcomes_due kept moment word)
 due_on kept moment word well told =
     all_three (StaysOn moment) kept moment word

@@ -1,6 +1,7 @@
 -- The history of a server: one turn behind the other, and which histories are right.
-use Rattle.std.specs.Prelude.{◌≡◌, ℕ, ◌<◌, ◌≤◌, List, [], ◌∷◌, fold}
+use Rattle.std.specs.Prelude.{◌≡◌, ℕ, ◌<◌, ◌≤◌, List, [], ◌∷◌, Option, fold}
 use Rattle.fk_time.specs.Moments.{greatest}
+use Rattle.fk_model.specs.declared.row.Row.{Row}
 use Rattle.fk_model.specs.declared.ask.Ask.{Ask}
 use Rattle.fk_model.specs.declared.answer.Answer.{Answer}
 use Rattle.fk_model.specs.declared.answer.Answer.TheVariants.{Said, NoMemory, Full, DiskFault}
@@ -8,6 +9,7 @@ use Rattle.fk_model.specs.declared.told.Told.{Told}
 use Rattle.fk_model.specs.declared.told.Compaction.TheVariants.{NotDue}
 use Rattle.fk_model.specs.declared.entry.Entry.{Entry}
 use Rattle.fk_model.specs.Limits.{greatest_next}
+use Rattle.fk_model.specs.Rows.{row_at}
 use Rattle.fk_model.specs.State.{State}
 use Rattle.fk_model.specs.Spellings.{IsWord}
 use Rattle.fk_model.specs.Range.{IsInRange}
@@ -34,6 +36,10 @@ next_state state entry = left_by entry.answer state (turn_of state entry)
 -- the state after a history
 abbrev pub state_after : State → List Entry → State
 state_after state entries = fold next_state state entries
+
+-- the row of a ticket behind a history, if there is one
+abbrev pub row_after : State → List Entry → ℕ → Option Row
+row_after state entries ticket = row_at (state_after state entries).kept.rows ticket
 
 -- ---- what makes an entry right
 

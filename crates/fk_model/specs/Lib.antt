@@ -1,5 +1,8 @@
 pub mod Commands
 pub mod Payloads
+pub mod Glob
+pub mod Filters
+pub mod Mutations
 pub mod Handshake
 pub mod Script
 pub mod Limits
@@ -16,8 +19,13 @@ pub mod Due
 pub mod Bringing
 pub mod Requests
 pub mod Workers
+pub mod Mutated
+pub mod Info
 pub mod Said
 pub mod Turns
 pub mod Answers
 pub mod Out
 pub mod History
+pub mod ReservationEnds
+pub mod PushEnds
+pub mod Given

@@ -39,6 +39,7 @@ IsInRange Tick = Unit {0}
 -- tested where it comes.
 abbrev pub HasJsonTexts : Ask → Type 0
 HasJsonTexts (Hello wid) = IsText wid
+HasJsonTexts (Push job) = Unit {0}
 HasJsonTexts (PushBatch jobs told) = IsText told
 HasJsonTexts (Fetch wid queues) = IsText wid
 HasJsonTexts (Ack jid) = IsText jid
@@ -46,4 +47,7 @@ HasJsonTexts (Fail jid errtype message backtrace) =
     IsText jid × IsText errtype × IsText message × AreTexts backtrace
 HasJsonTexts (Beat wid) = IsText wid
 HasJsonTexts (Signal wid state) = IsText wid
-HasJsonTexts other = Unit {0}
+HasJsonTexts Info = Unit {0}
+HasJsonTexts Flush = Unit {0}
+HasJsonTexts (Mutate cmd target filter) = IsFilter filter
+HasJsonTexts Tick = Unit {0}

@@ -6,7 +6,7 @@ use Rattle.fk_frame.specs.declared.reply.Reply.TheVariants.{Status, Error, Bulk,
 use Rattle.fk_job.specs.RowText.{row_text}
 use Rattle.fk_model.specs.declared.row.Row.{Row}
 use Rattle.fk_model.specs.declared.ask.Ask.{Ask}
-use Rattle.fk_model.specs.declared.ask.Ask.TheVariants.{Hello, Push, PushBatch, Fetch, Ack, Fail, Beat, Signal, Tick}
+use Rattle.fk_model.specs.declared.ask.Ask.TheVariants.{Hello, Push, PushBatch, Fetch, Ack, Fail, Beat, Signal, Info, Flush, Mutate, Tick}
 use Rattle.fk_model.specs.declared.work_state.WorkState.{WorkState}
 use Rattle.fk_model.specs.declared.work_state.WorkState.TheVariants.{Running, Quiet, Terminate}
 use Rattle.fk_model.specs.Rows.{ticket_of, row_of}
@@ -15,6 +15,8 @@ use Rattle.fk_model.specs.Orders.{leased}
 use Rattle.fk_model.specs.Failing.{Reason, failed}
 use Rattle.fk_model.specs.Workers.{seen_again, introduced, signalled, state_of}
 use Rattle.fk_model.specs.Requests.{pushed, all_pushed, fetched, reserved, finished}
+use Rattle.fk_model.specs.Mutated.{flushed, mutated, taken}
+use Rattle.fk_model.specs.Info.{info_text}
 
 -- what a request does: the state that it leaves, and what is said to it
 pub record Effect : Type 0 where
@@ -23,9 +25,6 @@ pub record Effect : Type 0 where
 
 abbrev pub ok : Reply
 ok = Status (codes "OK")
-
-abbrev pub not_served : Reply
-not_served = Error (codes "ERR Not served yet")
 
 -- the state stays, and this is said
 abbrev pub only_said : State → Reply → Effect
@@ -87,8 +86,7 @@ signal_effect state wid given =
     listed_and_said state (signalled wid given state.workers)
     (option_map_or (λ own. ok) (state_of wid state.workers) unknown_worker)
 
--- what is said to a request, and the state that it leaves, by the moment and the word of its turn; what no
--- line asks for yet changes nothing, and the last clause goes with the last request
+-- what is said to a request, and the state that it leaves, by the moment and the word of its turn
 unfoldable pub said : State → Ask → ℕ → ℕ → Effect
 said state (Hello wid) moment word = listed_and_said state (introduced wid moment state.workers) ok
 said state (Push job) moment word = kept_and_said state (pushed moment state.kept job) ok
@@ -100,5 +98,8 @@ said state (Fail jid errtype message backtrace) moment word =
     fail_effect state jid (record { errtype = errtype; message = message; backtrace = backtrace }) moment word
 said state (Beat wid) moment word = beat_effect state wid moment
 said state (Signal wid given) moment word = signal_effect state wid given
+said state Info moment word = only_said state (Bulk (info_text state.kept moment))
+said state Flush moment word = kept_and_said state (flushed state.kept) ok
+said state (Mutate cmd target filter) moment word =
+    kept_and_said state (mutated cmd moment state.kept (taken cmd target filter state.kept)) ok
 said state Tick moment word = only_said state ok
-said state other moment word = only_said state not_served

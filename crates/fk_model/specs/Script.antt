@@ -5,12 +5,13 @@ use Rattle.std.specs.Prelude.{◌≡◌, ℕ, true, List, [], ◌∷◌, ◌++�
 use Rattle.fk_frame.specs.declared.line_reader.Line.{Line}
 use Rattle.fk_frame.specs.declared.line_reader.Line.TheVariants.{Whole, Need, TooLong}
 use Rattle.fk_frame.specs.Lines.{lines_of}
-use Rattle.fk_model.specs.declared.ask.Ask.TheVariants.{Hello}
+use Rattle.fk_model.specs.declared.ask.Ask.TheVariants.{Hello, Info, Flush}
 use Rattle.fk_model.specs.declared.gate.Gate.{Gate}
 use Rattle.fk_model.specs.declared.item.Item.{Item}
 use Rattle.fk_model.specs.declared.item.Item.TheVariants.{Asks}
 use Rattle.fk_model.specs.Commands.{arguments, has_verb}
 use Rattle.fk_model.specs.Payloads.{IsAcknowledged, IsBatch, IsBeat, IsFetched, IsPushed, IsReported, IsSignal, accepted, is_some_text, refused}
+use Rattle.fk_model.specs.Mutations.{IsMutation}
 use Rattle.fk_model.specs.Handshake.{Welcome, let_in, turned_away, welcome}
 
 -- ---- a command
@@ -26,6 +27,9 @@ pub data Command : Type 0 where
   fail : Command
   beat : Command
   signal : Command
+  info : Command
+  flush : Command
+  mutate : Command
   unknown : Command
 
 abbrev pub command_of : List ℕ → Command
@@ -38,7 +42,10 @@ command_of line =
     (if has_verb (codes "ACK") line then ack else
     (if has_verb (codes "FAIL") line then fail else
     (if has_verb (codes "BEAT") line then beat else
-    (if has_verb (codes "SIGNAL") line then signal else unknown))))))))
+    (if has_verb (codes "SIGNAL") line then signal else
+    (if has_verb (codes "INFO") line then info else
+    (if has_verb (codes "FLUSH") line then flush else
+    (if has_verb (codes "MUTATE") line then mutate else unknown)))))))))))
 
 -- ---- before a HELLO was accepted
 
@@ -90,6 +97,9 @@ IsGiven wid ack arguments item = IsAcknowledged arguments item
 IsGiven wid fail arguments item = IsReported arguments item
 IsGiven wid beat arguments item = IsBeat arguments item
 IsGiven wid signal arguments item = IsSignal arguments item
+IsGiven wid info arguments item = item ≡ Asks Info
+IsGiven wid flush arguments item = item ≡ Asks Flush
+IsGiven wid mutate arguments item = IsMutation arguments item
 IsGiven wid unknown arguments item = item ≡ refused (codes "Unknown command")
 
 -- END gives nothing, and each other command one item

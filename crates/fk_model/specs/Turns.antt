@@ -4,7 +4,7 @@ use Rattle.std.specs.List.{enumerate_from}
 use Rattle.fk_job.specs.declared.job.Job.{Job}
 use Rattle.fk_model.specs.declared.row.Row.{Row}
 use Rattle.fk_model.specs.declared.ask.Ask.{Ask}
-use Rattle.fk_model.specs.declared.ask.Ask.TheVariants.{Push, PushBatch, Fetch, Ack, Fail}
+use Rattle.fk_model.specs.declared.ask.Ask.TheVariants.{Hello, Push, PushBatch, Fetch, Ack, Fail, Beat, Signal, Info, Flush, Mutate, Tick}
 use Rattle.fk_model.specs.declared.move_.Move.{Move}
 use Rattle.fk_model.specs.declared.move_.Move.TheVariants.{Add, Put, Drop, Totals}
 use Rattle.fk_model.specs.Rows.{ticket_of, row_of}
@@ -14,6 +14,7 @@ use Rattle.fk_model.specs.Failing.{Reason}
 use Rattle.fk_model.specs.Bringing.{brought_up, moves_of_failed, moves_up}
 use Rattle.fk_model.specs.Workers.{fresh}
 use Rattle.fk_model.specs.Requests.{pushed_row, reserved_row, fetched}
+use Rattle.fk_model.specs.Mutated.{moves_of_flush, moves_of_mutated, taken}
 use Rattle.fk_model.specs.Said.{Effect, said}
 
 -- the state brought up to the moment of a turn: the kept state, and the workers, of whom some are forgotten
@@ -42,8 +43,8 @@ abbrev pub moves_of_fail : KeptState → List ℕ → Reason → ℕ → ℕ →
 moves_of_fail kept jid reason moment word =
     moves_of_failed reason moment word (option_to_list (leased kept jid))
 
--- what a request changes, row by row, in a state that was brought up to date from another kept state,
--- which no request of today looks at; the last clause goes with the last request
+-- the moves of a request, one for each row that it changes, and one for all rows of a FLUSH, in a state that was
+-- brought up to date from another kept state, which a FLUSH alone looks at
 unfoldable pub moves_of : KeptState → State → Ask → ℕ → ℕ → List Move
 moves_of before state (Push job) moment word = moves_of_push moment state.kept.next (job ∷ [])
 moves_of before state (PushBatch jobs told) moment word = moves_of_push moment state.kept.next jobs
@@ -54,19 +55,26 @@ moves_of before state (Ack jid) moment word =
     map (λ filed. Drop (ticket_of filed)) (option_to_list (leased state.kept jid))
 moves_of before state (Fail jid errtype message backtrace) moment word =
     moves_of_fail state.kept jid (record { errtype = errtype; message = message; backtrace = backtrace }) moment word
-moves_of before state other moment word = []
+moves_of before state Flush moment word = moves_of_flush before
+moves_of before state (Mutate cmd target filter) moment word =
+    moves_of_mutated cmd moment state.kept.next (taken cmd target filter state.kept)
+moves_of before state (Hello wid) moment word = []
+moves_of before state (Beat wid) moment word = []
+moves_of before state (Signal wid given) moment word = []
+moves_of before state Info moment word = []
+moves_of before state Tick moment word = []
 
 -- the numbers of a kept state
 abbrev pub totals : KeptState → Move
 totals kept = Totals kept.next kept.processed kept.failures
 
--- moves that change a row, and behind them the numbers at the end
+-- moves, one for each row that is changed, and one for all rows of a FLUSH, and behind them the numbers at the end
 abbrev pub closed : List Move → KeptState → List Move
 closed [] kept = []
 closed (move ∷ moves) kept = (move ∷ moves) ++ totals kept ∷ []
 
--- the moves of a turn: one for each row that being brought up to date changes, then one for each that
--- the request changes, and the numbers last. There is none where the kept state stays
+-- the moves of a turn: one for each row that being brought up to date changes, then one for each row that the
+-- request changes, and one for all rows of a FLUSH, and the numbers last. There is none where the kept state stays
 abbrev pub moves_of_turn : State → Ask → ℕ → ℕ → List Move
 moves_of_turn state ask moment word =
     closed

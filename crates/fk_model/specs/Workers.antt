@@ -3,7 +3,7 @@ use Rattle.std.specs.Prelude.{ℕ, ◌+◌, Bool, false, not, nat_lt, bytes_eq, 
 use Rattle.std.specs.List.{find, list_any, IsDistinct}
 use Rattle.std.specs.Option.{option_map_or}
 use Rattle.fk_model.specs.declared.ask.Ask.{Ask}
-use Rattle.fk_model.specs.declared.ask.Ask.TheVariants.{Hello, Beat, Signal}
+use Rattle.fk_model.specs.declared.ask.Ask.TheVariants.{Hello, Push, PushBatch, Fetch, Ack, Fail, Beat, Signal, Info, Flush, Mutate, Tick}
 use Rattle.fk_model.specs.declared.work_state.WorkState.{WorkState}
 use Rattle.fk_model.specs.declared.work_state.WorkState.TheVariants.{Running, Quiet, Terminate}
 use Rattle.fk_model.specs.State.{Worker}
@@ -78,12 +78,20 @@ abbrev pub signalled : List ℕ → WorkState → List Worker → List Worker
 signalled wid state workers =
     changed (λ worker. record worker { state = greater worker.state state }) wid workers
 
--- what an ask makes of the workers; any that isn't named here leaves them as they are
+-- what an ask makes of the workers: those that say nothing of them leave them as they are
 abbrev pub acted : Ask → ℕ → List Worker → List Worker
 acted (Hello wid) moment workers = introduced wid moment workers
 acted (Beat wid) moment workers = seen_again wid moment workers
 acted (Signal wid state) moment workers = signalled wid state workers
-acted other moment workers = workers
+acted (Push job) moment workers = workers
+acted (PushBatch jobs told) moment workers = workers
+acted (Fetch wid queues) moment workers = workers
+acted (Ack jid) moment workers = workers
+acted (Fail jid errtype message backtrace) moment workers = workers
+acted Info moment workers = workers
+acted Flush moment workers = workers
+acted (Mutate cmd target filter) moment workers = workers
+acted Tick moment workers = workers
 
 -- the workers after a turn: first some are forgotten, and then the ask acts on those who are left
 abbrev pub after_turn : Ask → ℕ → List Worker → List Worker

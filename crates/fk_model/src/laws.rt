@@ -1,20 +1,26 @@
 //! Laws over the definitions of scripts, states, turns and histories. Each is the contract of a function
 //! that does nothing.
 
-ghost use Rattle.std.specs.Prelude.{◌≡◌, ◌≢◌, ◌<◌, ◌≤◌, ◌↔◌, ◌∷◌, ◌++◌, [], All, AllPairs, Bool, List, count_by, false, length, Option, ℕ};
+ghost use Rattle.std.specs.Prelude.{◌≡◌, ◌≢◌, ◌⊎◌, ◌<◌, ◌≤◌, ◌↔◌, ◌∷◌, ◌++◌, [], All, AllPairs, Bool, Contains, IfSome, IsSome, IsSomeAnd, List, None, Some, count_by, false, true, length, map, Option, ℕ};
+ghost use Rattle.std.specs.List.Sorted.{IsStrictlyIncreasing};
 ghost use Rattle.fk_time.specs.Moments.{greatest};
 ghost use Rattle.fk_frame.specs.Lines.{longest_line};
 ghost use Rattle.fk_frame.specs.declared.line_reader.Line.TheVariants.{Whole};
 ghost use Rattle.fk_job.specs.Spellings.{AreBytes};
+ghost use Rattle.fk_job.specs.declared.job.Job.{Job as AJob};
 ghost use Rattle.fk_model.specs.declared.ask.Ask.{Ask as AnAsk};
 ghost use Rattle.fk_model.specs.declared.ask.Ask.TheVariants.{Fail};
 ghost use Rattle.fk_model.specs.declared.entry.Entry.{Entry as AnEntry};
 ghost use Rattle.fk_model.specs.declared.gate.Gate.{Gate as AGate};
 ghost use Rattle.fk_model.specs.declared.item.Item.{Item as AnItem};
+ghost use Rattle.fk_model.specs.declared.place.Place.{Place as APlace};
+ghost use Rattle.fk_model.specs.declared.row.Row.{Row as ARow};
 ghost use Rattle.fk_model.specs.declared.item.Item.TheVariants.{Asks};
 ghost use Rattle.fk_model.specs.Limits.{greatest_next};
 ghost use Rattle.fk_model.specs.State.{KeptState, State, empty, without_workers};
-ghost use Rattle.fk_model.specs.Orders.{comes_before, in_order};
+ghost use Rattle.fk_model.specs.Rows.{row_at};
+ghost use Rattle.fk_json.specs.PairOrder.{comes_before};
+ghost use Rattle.fk_model.specs.Orders.{in_order, is_working};
 ghost use Rattle.fk_model.specs.Range.{HasJsonTexts, IsInRange};
 ghost use Rattle.fk_model.specs.Between.{IsBetweenTurns, IsWellKept};
 ghost use Rattle.fk_model.specs.Changes.{after_moves, EndsWithTotals, Lead};
@@ -25,7 +31,10 @@ ghost use Rattle.fk_model.specs.Workers.{after_turn};
 ghost use Rattle.fk_model.specs.Said.{fail_effect};
 ghost use Rattle.fk_model.specs.Turns.{closed, moves_of_fail, moves_of_turn, turn};
 ghost use Rattle.fk_model.specs.Answers.{IsToldApart};
-ghost use Rattle.fk_model.specs.History.{IsLegalFrom, IsOverLimit, faults_after, state_after};
+ghost use Rattle.fk_model.specs.History.{IsLegalFrom, IsOverLimit, faults_after, row_after, state_after};
+ghost use Rattle.fk_model.specs.PushEnds.{PushStands, push_ended};
+ghost use Rattle.fk_model.specs.ReservationEnds.{ReservationStands, reservation_ended, reservation_ended_at};
+ghost use Rattle.fk_model.specs.Given.{added, added_by, given_by, up_for};
 ghost use Rattle.fk_model.specs.Out.{asks_of, own_replies};
 ghost use Rattle.fk_model.specs.Script.{AreItemsOf, IsScript};
 
@@ -108,7 +117,8 @@ pub fn the_moves_of_a_fail_lead_to_its_state()
         → (fail_effect s jid reason moment word).state.kept
         ≡ after_moves s.kept (closed (moves_of_fail s.kept jid reason moment word)
         (fail_effect s jid reason moment word).state.kept) }
-    ensures stays { (s : State) (jid : List ℕ) (reason : Reason) (moment word : ℕ) → IsBetweenTurns s
+    ensures stays { (s : State) (jid : List ℕ) (reason : Reason) (moment word : ℕ)
+        → IsBetweenTurns s
         → ((moves_of_fail s.kept jid reason moment word ≡ [])
         ↔ ((fail_effect s jid reason moment word).state.kept ≡ s.kept)) }
     ensures lead { (s : State) (jid : List ℕ) (reason : Reason) (moment word : ℕ) → IsBetweenTurns s
@@ -192,4 +202,69 @@ pub fn a_legal_history_stays_within_its_limit()
     ensures within { (s : State) (n : ℕ) (front back : List AnEntry)
         → s.kept.next ≤ greatest_next → IsLegalFrom s n (front ++ back)
         → (state_after s front).kept.next ≤ greatest_next }
+{}
+
+// ---- what was promised
+
+/// What was pushed stands: from the entry on in which a push was answered, each of its jobs has a row
+/// under a ticket of its own, up to the first event that ends it; and behind that no row has the
+/// ticket. So do the rows that a history begins with.
+pub fn push_stands()
+    ensures pushed { (s : State) (n : ℕ) (before later : List AnEntry) (entry : AnEntry)
+        → (ticket : ℕ) (job : AJob)
+        → IsBetweenTurns s → IsLegalFrom s n (before ++ entry ∷ later)
+        → Contains (added_by (state_after s before) entry entry.answer) (ticket, job)
+        → PushStands (push_ended (state_after s (before ++ entry ∷ [])) later ticket) job
+        (row_after s (before ++ entry ∷ later) ticket) }
+    ensures held { (s : State) (n : ℕ) (later : List AnEntry) (ticket : ℕ) (row : ARow)
+        → IsBetweenTurns s → IsLegalFrom s n later → row_at s.kept.rows ticket ≡ Some row
+        → PushStands (push_ended s later ticket) row.job (row_after s later ticket) }
+{}
+
+/// A reservation that a FETCH gave stands, with its worker and its end, up to the first event that
+/// ends it; and right behind that event no worker has the row. No worker has a row but by a FETCH, and
+/// a FETCH gives none that a worker has.
+pub fn reservation_ends()
+    ensures stands { (s : State) (n : ℕ) (before later : List AnEntry) (entry : AnEntry)
+        → (ticket : ℕ) (place : APlace)
+        → IsBetweenTurns s → IsLegalFrom s n (before ++ entry ∷ later)
+        → given_by (state_after s before) entry entry.answer entry.ask ≡ Some (ticket, place)
+        → ReservationStands (reservation_ended (state_after s (before ++ entry ∷ [])) later ticket)
+        place (row_after s (before ++ entry ∷ later) ticket) }
+    ensures over { (s : State) (n : ℕ) (before : List AnEntry) (entry : AnEntry) (ticket : ℕ)
+        → IsBetweenTurns s → IsLegalFrom s n (before ++ entry ∷ [])
+        → IsSome (reservation_ended_at (state_after s before) entry ticket entry.answer)
+        → IfSome (row_after s (before ++ entry ∷ []) ticket) (λ row. is_working row.place ≡ false) }
+    ensures free { (s : State) (n : ℕ) (before : List AnEntry) (entry : AnEntry)
+        → (ticket : ℕ) (place : APlace)
+        → IsBetweenTurns s → IsLegalFrom s n (before ++ entry ∷ [])
+        → given_by (state_after s before) entry entry.answer entry.ask ≡ Some (ticket, place)
+        → IsSomeAnd (row_at (up_for (state_after s before) entry).kept.rows ticket)
+        (λ row. is_working row.place ≡ false) }
+    ensures alone { (s : State) (n : ℕ) (before : List AnEntry) (entry : AnEntry)
+        → (ticket : ℕ) (row : ARow)
+        → IsBetweenTurns s → IsLegalFrom s n (before ++ entry ∷ [])
+        → row_after s (before ++ entry ∷ []) ticket ≡ Some row → is_working row.place ≡ true
+        → (row_after s before ticket ≡ Some row)
+        ⊎ (given_by (state_after s before) entry entry.answer entry.ask
+        ≡ Some (ticket, row.place)) }
+{}
+
+/// No two entries of a legal history add a row under one ticket, no entry but a push adds a row, and
+/// the next number never falls.
+pub fn ticket_once()
+    ensures once { (s : State) (n : ℕ) (entries : List AnEntry)
+        → IsBetweenTurns s → IsLegalFrom s n entries
+        → IsStrictlyIncreasing (map (λ one. one.0) (added s entries)) }
+    ensures new { (s : State) (n : ℕ) (entries : List AnEntry)
+        → IsBetweenTurns s → IsLegalFrom s n entries
+        → All (λ one. s.kept.next ≤ one.0) (added s entries) }
+    ensures alone { (s : State) (n : ℕ) (before : List AnEntry) (entry : AnEntry) (ticket : ℕ)
+        → IsBetweenTurns s → IsLegalFrom s n (before ++ entry ∷ [])
+        → IsSome (row_after s (before ++ entry ∷ []) ticket) → row_after s before ticket ≡ None
+        → Contains (map (λ one. one.0) (added_by (state_after s before) entry entry.answer))
+        ticket }
+    ensures rises { (s : State) (n : ℕ) (front back : List AnEntry)
+        → IsLegalFrom s n (front ++ back)
+        → (state_after s front).kept.next ≤ (state_after s (front ++ back)).kept.next }
 {}
