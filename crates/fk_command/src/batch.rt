@@ -14,7 +14,7 @@ ghost use Rattle.fk_command.specs.Commands.{IsInForm};
 
 use crate::key::key_of;
 use crate::refusal::{Refusal, fault_text, job_or_fault, refuse};
-use crate::short::short_text;
+use fk_filter::short_text;
 use fk_job::{JobFault, Jobs};
 use fk_json::{JsonFault, Span, scan_array};
 use fk_model::{Ask, Item};

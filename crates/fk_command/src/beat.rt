@@ -6,7 +6,7 @@ ghost use Rattle.fk_command.specs.Commands.{IsInForm};
 
 use crate::object::{read_object, string_among};
 use crate::refusal::{Refusal, refuse};
-use crate::short::short_text;
+use fk_filter::short_text;
 use fk_model::{Ask, Item};
 use serde_json::{Map, Value};
 use std::alloc::{AllocError, Global};

@@ -11,6 +11,7 @@ use crate::batch::push_batch;
 use crate::beat::beat;
 use crate::fail::report;
 use crate::fetch::fetch;
+use crate::mutate::mutate;
 use crate::push::push;
 use crate::refusal::{Refusal, refuse};
 use crate::signal::signal;
@@ -81,6 +82,9 @@ fn read_item(alloc: Global, verb: Verb, text: &[u8], wid: &Text) -> Result<Optio
         Verb::Fail => Ok(Some(report(alloc, text)?)),
         Verb::Beat => Ok(Some(beat(alloc, text)?)),
         Verb::Signal => Ok(Some(signal(alloc, text)?)),
+        Verb::Info => Ok(Some(Item::Asks(Ask::Info))),
+        Verb::Flush => Ok(Some(Item::Asks(Ask::Flush))),
+        Verb::Mutate => Ok(Some(mutate(alloc, text)?)),
         Verb::Unknown => Ok(Some(refuse(alloc, Refusal::UnknownCommand))),
     }
 }

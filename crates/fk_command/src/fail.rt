@@ -10,7 +10,7 @@ ghost use Rattle.fk_command.specs.Commands.{IsInForm};
 
 use crate::object::{elements_among, read_object, string_among};
 use crate::refusal::{Refusal, refuse};
-use crate::short::short_text;
+use fk_filter::short_text;
 use fk_json::{Text, Texts};
 use fk_model::{Ask, Item, TEXT_LIMIT};
 use serde_json::{Map, Value};

@@ -8,14 +8,13 @@ mod command;
 mod fail;
 mod fetch;
 mod key;
+mod mutate;
 mod object;
 mod push;
 mod refusal;
-mod short;
 mod signal;
 mod verb;
 
 pub use command::{Command, read_command};
-pub use object::{member, read_object, string_among};
-pub use short::short_text;
+pub use object::{read_object, string_among};
 pub use verb::{Verb, arguments_of, command_in};

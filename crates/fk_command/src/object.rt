@@ -4,6 +4,7 @@ ghost use Rattle.serde_json.specs.Find.{as_array, as_object, get_member};
 ghost use Rattle.serde_json.specs.View.{items_view, members_view, view};
 ghost use Rattle.fk_model.specs.Payloads.{elements_among, object_read, string_among, value_read};
 
+use fk_filter::member;
 use serde_json::{Map, Value};
 use std::alloc::{AllocError, Global};
 
@@ -63,12 +64,4 @@ fn array_among<'v>(members: &'v Map<String, Value>, name: &str) -> Option<&'v Ve
         ≡ option_and_then as_array (get_member name.now (members_view members.now.entries)) }
 {
     member(members, name).and_then(Value::as_array)
-}
-
-/// The member of this name, if there is one.
-pub fn member<'v>(members: &'v Map<String, Value>, name: &str) -> Option<&'v Value>
-    ensures { option_map (λ value. view value.now) result
-        ≡ get_member name.now (members_view members.now.entries) }
-{
-    members.get(name)
 }

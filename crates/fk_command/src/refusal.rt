@@ -23,6 +23,9 @@ pub(crate) enum Refusal {
     NoJid,
     NoWid,
     BadState,
+    BadCmd,
+    BadTarget,
+    BadFilter,
     SaidHello,
     UnknownCommand,
 }
@@ -38,6 +41,9 @@ pub(crate) fn refuse(alloc: Global, refusal: Refusal) -> Item
         Refusal::NoJid => error(alloc, b"ERR No jid"),
         Refusal::NoWid => error(alloc, b"ERR No wid"),
         Refusal::BadState => error(alloc, b"ERR Bad state"),
+        Refusal::BadCmd => error(alloc, b"ERR Bad cmd"),
+        Refusal::BadTarget => error(alloc, b"ERR Bad target"),
+        Refusal::BadFilter => error(alloc, b"ERR Bad filter"),
         Refusal::SaidHello => error(alloc, b"ERR Already said HELLO"),
         Refusal::UnknownCommand => error(alloc, b"ERR Unknown command"),
     }

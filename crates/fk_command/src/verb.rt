@@ -17,6 +17,9 @@ pub enum Verb {
     Fail,
     Beat,
     Signal,
+    Info,
+    Flush,
+    Mutate,
     Unknown,
 }
 
@@ -43,6 +46,12 @@ pub fn command_in(line: &[u8]) -> Verb
         Verb::Beat
     } else if verb == b"SIGNAL".as_slice() {
         Verb::Signal
+    } else if verb == b"INFO".as_slice() {
+        Verb::Info
+    } else if verb == b"FLUSH".as_slice() {
+        Verb::Flush
+    } else if verb == b"MUTATE".as_slice() {
+        Verb::Mutate
     } else {
         Verb::Unknown
     }

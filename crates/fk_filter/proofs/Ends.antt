@@ -1,12 +1,11 @@
 -- What parts match of the ends of a text.
 use Rattle.std.proofs.Common.{◌≡◌, ◌↔◌, ◌⊎◌, ◌<◌, length, inl, inr, ℕ, List, [], ◌∷◌, ◌++◌, refl, sym, ap, ◌∙◌, subst, arith}
 use Rattle.std.proofs.lemmas.List.{append_assoc}
-use Rattle.fk_filter.specs.declared.part.Part.{Part}
-use Rattle.fk_filter.specs.declared.part.Part.TheVariants.{Run}
+use Rattle.fk_model.specs.Glob.{Part, run}
 use Rattle.fk_filter.specs.declared.stretch.Stop.{Stop}
 use Rattle.fk_filter.specs.declared.stretch.Stop.TheVariants.{Elsewhere, Nowhere}
-use Rattle.fk_filter.specs.Glob.{Match}
-use Rattle.fk_filter.specs.Stretches.{LeadsTo, MatchesEnd, Stops}
+use Rattle.fk_filter.specs.Match.{Match, MatchesEnd}
+use Rattle.fk_filter.specs.Stretches.{LeadsTo, Stops}
 
 -- the whole text is one of its ends
 pub at_once : (parts : List Part) (text : List ℕ) → Match parts text → MatchesEnd parts text
@@ -17,29 +16,29 @@ at_once parts text matched = ([], text, refl, matched)
 pub farther : (parts : List Part) (byte : ℕ) (rest : List ℕ)
     → MatchesEnd parts rest → MatchesEnd parts (byte ∷ rest)
 unfolding Match
-farther parts byte rest (run, end, is, matched) =
-    (byte ∷ run, end, ap (λ bytes. byte ∷ bytes) is, matched)
+farther parts byte rest (front, end, is, matched) =
+    (byte ∷ front, end, ap (λ bytes. byte ∷ bytes) is, matched)
 
 -- an end is the whole text, or an end of what stands behind its first byte
 pub whole_or_behind : (parts : List Part) (byte : ℕ) (rest : List ℕ)
     → MatchesEnd parts (byte ∷ rest) → Match parts (byte ∷ rest) ⊎ MatchesEnd parts rest
 unfolding Match
 whole_or_behind parts byte rest ([], end, is, matched) = inl (subst (Match parts) (sym is) matched)
-whole_or_behind parts byte rest (first ∷ run, end, is, matched) =
-    inr (run, end, grind (arith, is), matched)
+whole_or_behind parts byte rest (first ∷ front, end, is, matched) =
+    inr (front, end, grind (arith, is), matched)
 
 -- the empty text has one end
 pub only_end : (parts : List Part) → MatchesEnd parts [] → Match parts []
 unfolding Match
 only_end parts ([], end, is, matched) = subst (Match parts) (sym is) matched
-only_end parts (first ∷ run, end, is, matched) = absurd (grind (arith, is))
+only_end parts (first ∷ front, end, is, matched) = absurd (grind (arith, is))
 
 -- two runs are one
 pub two_runs : (parts : List Part) (text : List ℕ)
-    → MatchesEnd (Run ∷ parts) text → MatchesEnd parts text
+    → MatchesEnd (run ∷ parts) text → MatchesEnd parts text
 unfolding Match
-two_runs parts text (run, end, is, (other, rest, ends, matched)) =
-    (run ++ other, rest, is ∙ ap (λ bytes. run ++ bytes) ends ∙ sym (append_assoc run other rest), matched)
+two_runs parts text (front, end, is, (other, rest, ends, matched)) =
+    (front ++ other, rest, is ∙ ap (λ bytes. front ++ bytes) ends ∙ sym (append_assoc front other rest), matched)
 
 -- the empty text has none where the whole doesn't match
 pub no_end : (parts : List Part) (text : List ℕ) → length text < 1 → ¬ Match parts text
@@ -60,7 +59,7 @@ only_behind parts text byte rest is none = rw is (
 
 -- a stretch leads to a run: the ends that match it and what comes are those that match behind the run
 pub to_run : (parts : List Part) (text : List ℕ) (others : List Part) (rest : List ℕ)
-    → LeadsTo parts text (Run ∷ others) rest → MatchesEnd parts text ↔ MatchesEnd others rest
+    → LeadsTo parts text (run ∷ others) rest → MatchesEnd parts text ↔ MatchesEnd others rest
 to_run parts text others rest leads =
     (λ matched. two_runs others rest (leads.later matched), λ matched. at_once parts text (leads.here.1 matched))
 

@@ -5,13 +5,14 @@ use Rattle.std.proofs.Math.Seq.{take-suc}
 use Rattle.std.proofs.lemmas.List.{map-append}
 use Rattle.serde_json.specs.Data.{Data}
 use Rattle.serde_json.specs.Find.{as_str}
-use Rattle.serde_json.specs.View.{items_view, view}
+use Rattle.serde_json.specs.View.{view}
 use Rattle.serde_json.proofs.Views.{view-Array}
 use Rattle.serde_json.specs.declared.value.Value.{Array, Value}
-use Rattle.fk_model.specs.Payloads.{elements}
 use Rattle.fk_filter.specs.declared.fault.FilterFault.{FilterFault}
 use Rattle.fk_filter.specs.declared.fault.FilterFault.TheVariants.{BadFilter}
-use Rattle.fk_filter.specs.Filters.{Reads, strings, texts_of}
+use Rattle.fk_model.specs.Filters.{strings, texts_of}
+use Rattle.fk_filter.specs.Reads.{Reads}
+use Rattle.fk_filter.proofs.Arrays.{elements-items_view}
 
 -- one more string behind a first, and behind those that follow it
 puts_first : (first : Option (List ℕ)) (others more : Option (List (List ℕ))) (texts : List (List ℕ)) (text : List ℕ)
@@ -63,15 +64,11 @@ pub no_string : (values : List Value) (at : ℕ) (value : Value) → at < length
 no_string values at value within here none =
     no_strings values at value within (subst (λ one. as_str (view one) ≡ None) here none)
 
-elements_view : (values : List Value) → elements (items_view values) ≡ map view values
-elements_view [] = refl
-elements_view (value ∷ values) = ap (λ all. view value ∷ all) (elements_view values)
-
 -- an array has the texts of its elements
 pub texts_there : (array : Vec Value Global) (values : List Value) → values ≡ array.items
     → texts_of (view (Array array)) ≡ option_map Some (strings (map view values))
 texts_there array values is =
-    rw (view-Array array, is) (ap (λ all. option_map Some (strings all)) (elements_view array.items))
+    rw (view-Array array, is) (ap (λ all. option_map Some (strings all)) (elements-items_view array.items))
 
 -- a fault that rose was bad only where nothing is
 pub rises : {X Y : Type 0} (there : Option X) (part : Option Y) (fault : FilterFault) (result : Result X FilterFault)

@@ -1,3 +1,4 @@
-pub mod Glob
+pub mod Reads
+pub mod Parts
+pub mod Match
 pub mod Stretches
-pub mod Filters

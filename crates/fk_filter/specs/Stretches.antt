@@ -1,8 +1,7 @@
 -- How a pattern is held against a text, stretch by stretch: a stretch goes up to the next run.
 use Rattle.std.specs.Prelude.{◌≡◌, ◌==◌, ◌<◌, ◌≤◌, ◌+◌, ◌↔◌, ℕ, List, [], ◌∷◌, length, Bool, true, false, Option, None, Some, IsTrue, ⊤}
+use Rattle.fk_model.specs.Glob.{Part, run, one, itself, parts_of}
 use Rattle.fk_filter.specs.declared.part.Cut.{Cut}
-use Rattle.fk_filter.specs.declared.part.Part.{Part}
-use Rattle.fk_filter.specs.declared.part.Part.TheVariants as part
 use Rattle.fk_filter.specs.declared.stretch.Left.{Left}
 use Rattle.fk_filter.specs.declared.stretch.Stop.{Stop}
 use Rattle.fk_filter.specs.declared.stretch.Stop.TheVariants as stop
@@ -10,7 +9,8 @@ use Rattle.fk_filter.specs.declared.stretch.Led.{Led}
 use Rattle.fk_filter.specs.declared.stretch.Led.TheVariants as led
 use Rattle.fk_filter.specs.declared.globbing.Search.{Search}
 use Rattle.fk_filter.specs.declared.globbing.Search.TheVariants as search
-use Rattle.fk_filter.specs.Glob.{Match, parts_of}
+use Rattle.fk_filter.specs.Parts.{meant}
+use Rattle.fk_filter.specs.Match.{Match, MatchesEnd}
 
 -- ---- one part
 
@@ -18,20 +18,16 @@ use Rattle.fk_filter.specs.Glob.{Match, parts_of}
 abbrev pub BeginsWith : List ℕ → Option Cut → Type 0
 BeginsWith pattern None = pattern ≡ []
 BeginsWith pattern (Some cut) =
-    (parts_of pattern ≡ cut.part ∷ parts_of cut.behind.now)
+    (parts_of pattern ≡ meant cut.part ∷ parts_of cut.behind.now)
     × (length cut.behind.now < length pattern)
 
 -- the part stands for this one byte
 abbrev pub takes : Part → ℕ → Bool
-takes part.Run byte = false
-takes part.One byte = true
-takes (part.Itself itself) byte = itself == byte
+takes run byte = false
+takes one byte = true
+takes (itself wanted) byte = wanted == byte
 
 -- ---- what they match
-
--- the parts match an end of the text
-abbrev pub MatchesEnd : List Part → List ℕ → Type 0
-MatchesEnd parts text = Match (part.Run ∷ parts) text
 
 -- the parts match the text where the others match the rest of it, and where they match an end of the
 -- text, the others match an end of the rest
@@ -43,7 +39,7 @@ pub record LeadsTo
 -- what was found out of the parts and the text by holding a stretch against it
 abbrev pub Stops : List Part → List ℕ → Stop → Type 0
 Stops parts text (stop.Run left) =
-    LeadsTo parts text (part.Run ∷ parts_of left.pattern.now) left.text.now
+    LeadsTo parts text (run ∷ parts_of left.pattern.now) left.text.now
 Stops parts text stop.Whole = Match parts text
 Stops parts text stop.Elsewhere = ¬ Match parts text
 Stops parts text stop.Nowhere = ¬ MatchesEnd parts text

@@ -1,6 +1,6 @@
-ghost use Rattle.std.specs.Prelude.{◌∷◌, ◌↔◌, IsTrue};
-ghost use Rattle.fk_filter.specs.declared.part.Part.TheVariants.{Run};
-ghost use Rattle.fk_filter.specs.Glob.{Globs, Match, parts_of};
+ghost use Rattle.std.specs.Prelude.{◌≡◌, ◌∷◌, ◌↔◌, IsTrue};
+ghost use Rattle.fk_model.specs.Glob.{globs, parts_of};
+ghost use Rattle.fk_filter.specs.Match.{Match, MatchesEnd};
 ghost use Rattle.fk_filter.specs.Stretches.{Seeks, SeeksLess};
 
 use crate::stretch::{Left, Stop, stretch};
@@ -19,9 +19,16 @@ enum Search<'a> {
 /// what comes up to the next is looked for at one place of the text after the other. The first place will
 /// do, since the next `*` can leave out whatever lies up to a later one.
 pub(crate) fn glob(pattern: &[u8], text: &[u8]) -> bool
-    ensures { IsTrue result ↔ Globs pattern.now text.now }
+    ensures { result ≡ globs pattern.now text.now }
 {
-    match stretch(Left { pattern, text }) {
+    is_whole(Left { pattern, text })
+}
+
+/// Whether what is left of a pattern matches what is left of the text.
+fn is_whole(left: Left) -> bool
+    ensures { IsTrue result ↔ Match (parts_of left.entry.pattern.now) left.entry.text.now }
+{
+    match stretch(left) {
         Stop::Run(left) => anywhere(left),
         Stop::Whole => true,
         Stop::Elsewhere | Stop::Nowhere => false,
@@ -30,7 +37,7 @@ pub(crate) fn glob(pattern: &[u8], text: &[u8]) -> bool
 
 /// Whether what is left of a pattern matches an end of what is left of the text.
 fn anywhere(start: Left) -> bool
-    ensures { IsTrue result ↔ Match (Run ∷ parts_of start.entry.pattern.now) start.entry.text.now }
+    ensures { IsTrue result ↔ MatchesEnd (parts_of start.entry.pattern.now) start.entry.text.now }
 {
     let mut left = start;
     'places: loop {

@@ -1,6 +1,7 @@
-//! Which rows a MUTATE is about.
+//! Which rows a MUTATE is about, and what serde_json decodes of a command.
 #![tactic(auto)]
 
+mod decoded;
 mod fault;
 mod globbing;
 mod matching;
@@ -9,6 +10,7 @@ mod reading;
 mod stretch;
 mod texts;
 
+pub use decoded::{member, short_text};
 pub use fault::FilterFault;
 pub use matching::matches;
 pub use reading::read_filter;

@@ -1,6 +1,7 @@
 // What a pattern begins with.
 ghost use Rattle.std.specs.Prelude.{◌≡◌, ◌∷◌, Some};
-ghost use Rattle.fk_filter.specs.Glob.{backslash, part_of};
+ghost use Rattle.fk_model.specs.Glob.{backslash, part_of};
+ghost use Rattle.fk_filter.specs.Parts.{meant};
 ghost use Rattle.fk_filter.specs.Stretches.{BeginsWith};
 
 /// What a part of a pattern stands for.
@@ -63,7 +64,7 @@ fn escaped<'a>(behind: &'a [u8]) -> Cut<'a>
 
 // What a byte stands for before which there is no `\`.
 fn part_of(byte: u8) -> Part
-    ensures { result ≡ part_of byte }
+    ensures { meant result ≡ part_of byte }
 {
     match byte {
         b'*' => Part::Run,

@@ -1,12 +1,13 @@
-ghost use Rattle.std.specs.Prelude.{◌≡◌, Err, None, Some, IfOk, IfSome, option_map};
-ghost use Rattle.serde_json.specs.Find.{get_member};
+ghost use Rattle.std.specs.Prelude.{◌≡◌, Err, None, Some, IfOk, IfSome};
 ghost use Rattle.serde_json.specs.View.{members_view, view};
 ghost use Rattle.fk_job.specs.Spellings.{IsText};
 ghost use Rattle.fk_model.specs.Range.{IsFilter};
 ghost use Rattle.fk_model.specs.Spellings.{AreTexts};
 ghost use Rattle.fk_filter.specs.declared.fault.FilterFault.TheVariants.{BadFilter};
-ghost use Rattle.fk_filter.specs.Filters.{Reads, filter_in, filter_of, text_in, text_of, texts_in, texts_of};
+ghost use Rattle.fk_model.specs.Filters.{filter_in, filter_of, text_in, text_of, texts_in, texts_of};
+ghost use Rattle.fk_filter.specs.Reads.{Reads};
 
+use crate::decoded::member;
 use crate::fault::FilterFault;
 use crate::texts::{few_strings, unless_empty};
 use fk_json::{Text, Texts};
@@ -73,14 +74,6 @@ fn texts_in(
         Some(value) => texts_of(alloc, value),
         None => Ok(None),
     }
-}
-
-/// The member of this name, if there is one.
-fn member<'v>(members: &'v Map<String, Value>, name: &str) -> Option<&'v Value>
-    ensures { option_map (λ value. view value.now) result
-        ≡ get_member name.now (members_view members.now.entries) }
-{
-    members.get(name)
 }
 
 /// The text of a condition of this value.

@@ -1,7 +1,7 @@
 // How the parts of a pattern up to its next run are held against the front of a text.
 ghost use Rattle.std.specs.Prelude.{◌≡◌, ◌≢◌, ◌<◌, ◌∷◌, [], length};
-ghost use Rattle.fk_filter.specs.declared.part.Part.TheVariants.{Run};
-ghost use Rattle.fk_filter.specs.Glob.{parts_of};
+ghost use Rattle.fk_model.specs.Glob.{parts_of, run};
+ghost use Rattle.fk_filter.specs.Parts.{meant};
 ghost use Rattle.fk_filter.specs.Stretches.{Shows, Shrinks, Stops, StopShrinks, takes};
 
 use crate::part::{Cut, Part, first_part};
@@ -73,7 +73,8 @@ fn end<'a>(left: Left<'a>) -> Stop<'a>
 /// Holds this part, with which the pattern begins, against the text.
 fn pass<'a>(left: Left<'a>, cut: Cut<'a>) -> Led<'a>
     requires { length cut.behind.now < length left.pattern.now }
-    ensures is { Shows (cut.entry.part ∷ parts_of cut.entry.behind.now) left.entry.text.now result }
+    ensures is { Shows (meant cut.entry.part ∷ parts_of cut.entry.behind.now)
+        left.entry.text.now result }
     ensures less { Shrinks left.entry result }
 {
     match cut.part {
@@ -87,9 +88,10 @@ fn pass<'a>(left: Left<'a>, cut: Cut<'a>) -> Led<'a>
 
 /// Holds this part for one byte, with which the pattern begins, against the text.
 fn pass_byte<'a>(left: Left<'a>, cut: Cut<'a>) -> Led<'a>
-    requires one { cut.part ≢ Run }
+    requires one { meant cut.part ≢ run }
     requires less { length cut.behind.now < length left.pattern.now }
-    ensures is { Shows (cut.entry.part ∷ parts_of cut.entry.behind.now) left.entry.text.now result }
+    ensures is { Shows (meant cut.entry.part ∷ parts_of cut.entry.behind.now)
+        left.entry.text.now result }
     ensures less { Shrinks left.entry result }
 {
     match left.text {
@@ -104,7 +106,7 @@ fn pass_byte<'a>(left: Left<'a>, cut: Cut<'a>) -> Led<'a>
 
 /// Whether a part for one byte stands for this one.
 fn takes(part: Part, byte: u8) -> bool
-    ensures { result ≡ takes part byte }
+    ensures { result ≡ takes (meant part) byte }
 {
     match part {
         Part::Run => false,

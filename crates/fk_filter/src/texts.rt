@@ -4,25 +4,15 @@ ghost use Rattle.serde_json.specs.Find.{as_str};
 ghost use Rattle.serde_json.specs.View.{view};
 ghost use Rattle.fk_job.specs.Spellings.{IsText};
 ghost use Rattle.fk_model.specs.Spellings.{AreTexts};
-ghost use Rattle.fk_filter.specs.Filters.{Reads, strings, unless_empty};
+ghost use Rattle.fk_model.specs.Filters.{strings, unless_empty};
+ghost use Rattle.fk_filter.specs.Reads.{Reads};
 
+use crate::decoded::short_text;
 use crate::fault::FilterFault;
 use fk_json::{Text, Texts};
 use fk_model::TEXT_LIMIT;
 use serde_json::Value;
 use std::alloc::{AllocError, Global};
-
-/// A text of these bytes, fewer than 2^32: more are told as want of memory. They are far fewer, and no
-/// clause of serde_json bounds what it decodes by the line that it was read from.
-fn short_text(alloc: Global, bytes: &[u8]) -> Result<Text, AllocError>
-    ensures same { IfOk result (λ text. text ≡ bytes.now) }
-    ensures short { IfOk result IsText }
-{
-    if bytes.len() >= TEXT_LIMIT {
-        return Err(AllocError);
-    }
-    Text::copy(alloc, bytes)
-}
 
 /// A text of these bytes, unless there are none.
 pub(crate) fn unless_empty(alloc: Global, bytes: &[u8]) -> Result<Option<Text>, AllocError>

@@ -8,7 +8,7 @@ use Rattle.fk_frame.specs.declared.line_reader.Line.TheVariants.{Whole}
 use Rattle.fk_model.specs.declared.gate.Gate.{Gate}
 use Rattle.fk_model.specs.Commands.{arguments}
 use Rattle.fk_model.specs.Handshake.{Welcome, let_in, turned_away, welcome}
-use Rattle.fk_model.specs.Script.{AreItemsOf, Command, command_of, ends_talk, speaker_after, end, hello, hello_first, hello_item, is_refusal, let_in_by, push, batch, fetch, ack, fail, beat, signal, unknown}
+use Rattle.fk_model.specs.Script.{AreItemsOf, Command, command_of, ends_talk, speaker_after, end, hello, hello_first, hello_item, is_refusal, let_in_by, push, batch, fetch, ack, fail, beat, signal, info, flush, mutate, unknown}
 use Rattle.fk_talk.specs.declared.line.Heard.{Heard}
 use Rattle.fk_talk.specs.declared.standing.Standing.TheVariants.{Nobody, Over}
 use Rattle.fk_talk.specs.Hearing.{Does, standing_by, standing_of}
@@ -79,5 +79,11 @@ nobody_is_refused gate line verbs.Beat heard no_end no_hello is item stays =
     other_does gate line beat heard tt is item stays
 nobody_is_refused gate line verbs.Signal heard no_end no_hello is item stays =
     other_does gate line signal heard tt is item stays
+nobody_is_refused gate line verbs.Info heard no_end no_hello is item stays =
+    other_does gate line info heard tt is item stays
+nobody_is_refused gate line verbs.Flush heard no_end no_hello is item stays =
+    other_does gate line flush heard tt is item stays
+nobody_is_refused gate line verbs.Mutate heard no_end no_hello is item stays =
+    other_does gate line mutate heard tt is item stays
 nobody_is_refused gate line verbs.Unknown heard no_end no_hello is item stays =
     other_does gate line unknown heard tt is item stays

@@ -4,7 +4,7 @@ use Rattle.fk_frame.specs.declared.line_reader.Line.TheVariants.{Whole}
 use Rattle.fk_model.specs.declared.gate.Gate.{Gate}
 use Rattle.fk_model.specs.declared.item.Item.{Item}
 use Rattle.fk_model.specs.Commands.{arguments, has_verb}
-use Rattle.fk_model.specs.Script.{AreGiven, AreItemsOf, Command, command_of, ends_talk, end, hello, push, batch, fetch, ack, fail, beat, signal, unknown}
+use Rattle.fk_model.specs.Script.{AreGiven, AreItemsOf, Command, command_of, ends_talk, end, hello, push, batch, fetch, ack, fail, beat, signal, info, flush, mutate, unknown}
 use Rattle.fk_talk.specs.declared.line.Heard.{Heard}
 use Rattle.fk_talk.specs.declared.standing.Standing.TheVariants.{Over, Somebody}
 use Rattle.fk_talk.specs.Hearing.{Does}
@@ -33,7 +33,10 @@ is_end-of line =
     (or_not (has_verb (codes "ACK") line) ack _ refl
     (or_not (has_verb (codes "FAIL") line) fail _ refl
     (or_not (has_verb (codes "BEAT") line) beat _ refl
-    (or_not (has_verb (codes "SIGNAL") line) signal unknown refl refl))))))))
+    (or_not (has_verb (codes "SIGNAL") line) signal _ refl
+    (or_not (has_verb (codes "INFO") line) info _ refl
+    (or_not (has_verb (codes "FLUSH") line) flush _ refl
+    (or_not (has_verb (codes "MUTATE") line) mutate unknown refl refl)))))))))))
 
 some_items : (item : Item) (items : List Item) → [] ≡ item ∷ items → ⊥
 some_items item items none = omega (arith, ap length none)
@@ -50,6 +53,9 @@ none_given wid ack text (item, given, are) = absurd (some_items item [] are)
 none_given wid fail text (item, given, are) = absurd (some_items item [] are)
 none_given wid beat text (item, given, are) = absurd (some_items item [] are)
 none_given wid signal text (item, given, are) = absurd (some_items item [] are)
+none_given wid info text (item, given, are) = absurd (some_items item [] are)
+none_given wid flush text (item, given, are) = absurd (some_items item [] are)
+none_given wid mutate text (item, given, are) = absurd (some_items item [] are)
 none_given wid unknown text (item, given, are) = absurd (some_items item [] are)
 
 one_given : (wid : List ℕ) (command : Command) (text : List ℕ) (item : Item)
@@ -63,6 +69,9 @@ one_given wid ack text item are = refl
 one_given wid fail text item are = refl
 one_given wid beat text item are = refl
 one_given wid signal text item are = refl
+one_given wid info text item are = refl
+one_given wid flush text item are = refl
+one_given wid mutate text item are = refl
 one_given wid unknown text item are = refl
 
 -- END ends the talk

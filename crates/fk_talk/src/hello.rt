@@ -7,7 +7,8 @@ ghost use Rattle.fk_model.specs.Payloads as payload;
 ghost use Rattle.fk_talk.specs.Hearing.{IsLetIn, reason, welcomed};
 
 use crate::password::{is_same, pass_hash, salt_text};
-use fk_command::{member, read_object, short_text, string_among};
+use fk_command::{read_object, string_among};
+use fk_filter::{member, short_text};
 use fk_json::Text;
 use fk_model::Gate;
 use serde_json::{Map, Value};

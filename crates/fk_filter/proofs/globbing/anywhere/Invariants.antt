@@ -1,6 +1,6 @@
 use Rattle.std.proofs.Common.{◌↔◌, ◌+◌, length}
-use Rattle.fk_filter.specs.Glob.{parts_of}
-use Rattle.fk_filter.specs.Stretches.{MatchesEnd}
+use Rattle.fk_model.specs.Glob.{parts_of}
+use Rattle.fk_filter.specs.Match.{MatchesEnd}
 use Rattle.fk_filter.proofs.globbing.anywhere.Given as goal
 
 -- what is left matches as all of it does

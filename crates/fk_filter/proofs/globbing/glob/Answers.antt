@@ -1,6 +1,5 @@
-use Rattle.fk_filter.proofs.Ends.{ends_nowhere}
-use Rattle.fk_filter.proofs.Says.{says_not}
+use Rattle.fk_filter.proofs.Whole.{tells_whole}
 use Rattle.fk_filter.proofs.globbing.glob.Goals as goal
 
-pub returns-in-Elsewhere : goal.returns-in-Elsewhere
-returns-in-Elsewhere c = says_not _ (ends_nowhere _ _ _ c.in-Elsewhere.is c.stretch.ensures.is)
+pub returns : goal.returns
+returns c = tells_whole _ c.args.text.now c.is_whole.result c.is_whole.ensures

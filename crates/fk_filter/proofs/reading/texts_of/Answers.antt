@@ -1,7 +1,7 @@
 use Rattle.std.proofs.Common.{◌∙◌, Some, ap}
 use Rattle.std.specs.Prelude.{option_map}
 use Rattle.serde_json.specs.View.{view}
-use Rattle.fk_filter.specs.Filters.{texts_of}
+use Rattle.fk_model.specs.Filters.{texts_of}
 use Rattle.fk_filter.proofs.Strings.{rises, texts_there}
 use Rattle.fk_filter.proofs.reading.texts_of.Goals as goal
 

@@ -1,6 +1,6 @@
 use Rattle.std.proofs.Common.{arith}
 use Rattle.std.proofs.lemmas.List.{nil_from_length}
-use Rattle.fk_filter.specs.Glob.{Match}
+use Rattle.fk_filter.specs.Match.{Match}
 use Rattle.fk_filter.proofs.stretch.end.Goals as goal
 
 pub returns-then-is_empty-clause-is : goal.returns-then-is_empty-clause-is

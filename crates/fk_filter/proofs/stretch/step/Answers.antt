@@ -1,4 +1,4 @@
-use Rattle.fk_filter.specs.Glob.{parts_of}
+use Rattle.fk_model.specs.Glob.{parts_of}
 use Rattle.fk_filter.proofs.stretch.step.Goals as goal
 
 pub returns-in-None-clause-is : goal.returns-in-None-clause-is

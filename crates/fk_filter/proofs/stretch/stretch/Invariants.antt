@@ -1,5 +1,5 @@
 use Rattle.std.proofs.Common.{◌≤◌, length}
-use Rattle.fk_filter.specs.Glob.{parts_of}
+use Rattle.fk_model.specs.Glob.{parts_of}
 use Rattle.fk_filter.specs.Stretches.{LeadsTo}
 use Rattle.fk_filter.proofs.stretch.stretch.Given as goal
 

@@ -1,7 +1,7 @@
 use Rattle.std.proofs.Common.{option_map, ap, ◌∙◌}
 use Rattle.serde_json.specs.View.{view}
 use Rattle.serde_json.proofs.Views.{view_of_ref, view-lookup}
-use Rattle.fk_command.proofs.object.member.Goals as goal
+use Rattle.fk_filter.proofs.decoded.member.Goals as goal
 
 pub returns : goal.returns
 returns c =
