@@ -7,7 +7,8 @@ use Rattle.std.proofs.lemmas.List.Elements.{All-weaker}
 use Rattle.fk_model.specs.declared.row.Row.{Row}
 use Rattle.fk_model.specs.declared.mutation.Target.{Target}
 use Rattle.fk_model.specs.Rows.{IsByTicket, row_at, with_row, without_row}
-use Rattle.fk_model.specs.Orders.{number_in, ticket_in, moment_in, timed, with_pair, with_ticket}
+use Rattle.fk_json.specs.PairOrder.{with_pair}
+use Rattle.fk_model.specs.Orders.{number_in, ticket_in, moment_in, timed, with_ticket}
 use Rattle.fk_model.proofs.Filed.{without_none}
 use Rattle.fk_model.proofs.Sieves.{filter_all}
 use Rattle.fk_model.proofs.Sorting.{are_in_order}

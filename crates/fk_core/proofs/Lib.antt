@@ -1,3 +1,4 @@
+pub mod Whereabouts
 pub mod Standings
 pub mod InSets
 pub mod RowEnters

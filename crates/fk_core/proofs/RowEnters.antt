@@ -8,7 +8,8 @@ use Rattle.fk_model.specs.declared.row.Row.{Row}
 use Rattle.fk_model.specs.declared.mutation.Target.{Target}
 use Rattle.fk_model.specs.declared.move_.Move.TheVariants.{Add}
 use Rattle.fk_model.specs.Rows.{ticket_of, row_of, IsByTicket, row_at, with_row, without_row}
-use Rattle.fk_model.specs.Orders.{number_in, with_pair, rank_of, rank_in, is_working, lease_under, queue, leases, working}
+use Rattle.fk_json.specs.PairOrder.{with_pair}
+use Rattle.fk_model.specs.Orders.{number_in, rank_of, rank_in, is_working, lease_under, queue, leases, working}
 use Rattle.fk_model.specs.Spellings.{HasSpelling}
 use Rattle.fk_model.proofs.Filed.{without_none}
 use Rattle.fk_model.proofs.Tickets.{by_ticket_with, all_with}

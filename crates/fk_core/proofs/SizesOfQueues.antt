@@ -64,17 +64,17 @@ some_found : (found : Option (List (ℕ × ℕ))) → unwrap_or found [] ≢ [] 
 some_found None some = absurd (some refl)
 some_found (Some pairs) some = refl
 
-name_found : (items : Named) (name : List ℕ) → list_at items name ≢ [] → Contains (keys_of items) name
+pub name_found : (items : Named) (name : List ℕ) → list_at items name ≢ [] → Contains (keys_of items) name
 unfolding list_at
 name_found items name some =
     Contains-keys_from_lookup (λ one other. (bytes_eq-Decides one other).0) name items
     (some_found (lookup (bytes_eq name) items) some)
 
-longer : (pairs : List (ℕ × ℕ)) → pairs ≢ [] → 0 < length pairs
+pub longer : (pairs : List (ℕ × ℕ)) → pairs ≢ [] → 0 < length pairs
 longer [] some = absurd (some refl)
 longer (pair ∷ pairs) some = omega arith
 
-same_names : (items : Named) → map (λ size. size.name) (sizes_of items) ≡ keys_of items
+pub same_names : (items : Named) → map (λ size. size.name) (sizes_of items) ≡ keys_of items
 same_names [] = refl
 same_names (entry ∷ items) = ap (λ names. entry.0 ∷ names) (same_names items)
 

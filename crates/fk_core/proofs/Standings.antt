@@ -6,7 +6,8 @@ use Rattle.fk_model.specs.declared.row.Row.{Row}
 use Rattle.fk_model.specs.declared.mutation.Target.{Target}
 use Rattle.fk_model.specs.declared.place.Place.{Place}
 use Rattle.fk_model.specs.declared.place.Place.TheVariants.{Queued, Scheduled, Retry, Dead, Working}
-use Rattle.fk_model.specs.Orders.{with_pair, rank_of, rank_in, is_working, leased_until, moment_in}
+use Rattle.fk_json.specs.PairOrder.{with_pair}
+use Rattle.fk_model.specs.Orders.{rank_of, rank_in, is_working, leased_until, moment_in}
 use Rattle.fk_model.proofs.Counted.{one_if}
 use Rattle.fk_model.proofs.Ticketed.{joined_by}
 use Rattle.fk_model.proofs.Numbered.{gained}

@@ -4,7 +4,8 @@ use Rattle.std.specs.Prelude.{ℕ, ◌≡◌, ◌<◌, ◌+◌, ◌-◌, ◌++�
 use Rattle.std.specs.Option.{option_map_or}
 use Rattle.fk_model.specs.declared.row.Row.{Row}
 use Rattle.fk_model.specs.declared.mutation.Target.{Target}
-use Rattle.fk_model.specs.Orders.{number_in, rank_of, rank_in, ticket_in, with_pair, is_working, lease_under}
+use Rattle.fk_json.specs.PairOrder.{with_pair}
+use Rattle.fk_model.specs.Orders.{number_in, rank_of, rank_in, ticket_in, is_working, lease_under}
 use Rattle.fk_lists.specs.Room.{Room, list_at, spare_at}
 use Rattle.fk_leases.specs.Leases.{without_lease, IsUnleased}
 use Rattle.fk_tree.specs.Order.{without_pair}

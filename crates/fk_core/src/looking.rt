@@ -3,6 +3,8 @@ ghost use Rattle.std.specs.Prelude.{◌≡◌, ◌↔◌, ◌++◌, ◌<◌, ◌
 ghost use Rattle.std.specs.Option.{option_copied};
 ghost use Rattle.fk_model.specs.Rows.{row_at, ticket_of};
 ghost use Rattle.fk_model.specs.Limits.{greatest_next};
+ghost use Rattle.fk_model.specs.Info.{waiting};
+ghost use Rattle.fk_model.specs.Mutated.{are_none};
 ghost use Rattle.fk_model.specs.Between.{IsAboveAll, IsWellKept};
 ghost use Rattle.fk_model.specs.Due.{expired, up_to, IsUpToDate};
 ghost use Rattle.fk_model.specs.Orders.{leased, queue, ticket_in, timed, working};
@@ -53,11 +55,37 @@ impl Tables {
         self.failures
     }
 
+    /// Whether there is no row.
+    pub fn is_empty(&self) -> bool
+        ensures { result ≡ are_none self.now.kept.rows }
+    {
+        self.rows.count() == 0
+    }
+
     /// The number of rows that workers have.
     pub fn working(&self) -> usize
         ensures { result ≡ length (working self.now.kept.rows) }
     {
         self.index.working
+    }
+
+    /// The number of rows that wait in their queues: all those that stand nowhere else.
+    #[tactic(auto, using(crate::proofs::Whereabouts::each_in_one))]
+    pub fn waiting(&self) -> usize
+        ensures { result ≡ length (waiting self.now.kept.rows) }
+    {
+        self.rows.count()
+            - self.size(Target::Scheduled)
+            - self.size(Target::Retries)
+            - self.size(Target::Dead)
+            - self.working()
+    }
+
+    /// The number of rows that wait in a queue.
+    pub fn queued(&self, name: &Text) -> usize
+        ensures { result ≡ length (queue self.now.kept.rows name.now) }
+    {
+        self.index.queues.count(name)
     }
 
     /// The ticket of a queue's first row.

@@ -1,7 +1,7 @@
 ghost use Rattle.std.specs.Prelude.{◌≡◌, ◌↔◌, ◌+◌, ◌<◌, ◌≤◌, [], IfSome, IsOk, IsTrue, OnOk};
 ghost use Rattle.std.specs.Option.{option_map_or};
 ghost use Rattle.fk_model.specs.declared.mutation.Target.{Target};
-ghost use Rattle.fk_model.specs.Orders.{with_pair};
+ghost use Rattle.fk_json.specs.PairOrder.{with_pair};
 ghost use Rattle.fk_tree.specs.Order.{without_pair};
 ghost use Rattle.fk_timed.specs.Timed.{IsAbsent};
 ghost use Rattle.fk_core.specs.Index.{count_of};

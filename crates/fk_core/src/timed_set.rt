@@ -1,5 +1,5 @@
 ghost use Rattle.std.specs.Prelude.{◌≡◌, ◌↔◌, ◌++◌, ◌+◌, ◌<◌, ◌≤◌, [], length, IsOk, IsTrue, OnErr, OnOk};
-ghost use Rattle.fk_model.specs.Orders.{with_pair};
+ghost use Rattle.fk_json.specs.PairOrder.{with_pair};
 ghost use Rattle.fk_tree.specs.Order.{up_to, without_pair};
 ghost use Rattle.fk_timed.specs.Timed.{IsAbsent};
 ghost use Rattle.fk_core.specs.Lookups.{AreLater};

@@ -69,7 +69,7 @@ waits_behind kept name names none =
 
 -- ---- the queue at a place, and those behind it
 
-left_from : (names : List (List ℕ)) (at : ℕ) (name : List ℕ) → at < length names
+pub left_from : {X : Type 0} (names : List X) (at : ℕ) (name : X) → at < length names
     → name ≡ get_or names at name → drop at names ≡ name ∷ drop (at + 1) names
 left_from names at name within here =
     rw add-one (drop-cons names at name within ∙ ap (λ n. n ∷ drop (suc at) names) (sym here))

@@ -155,7 +155,7 @@ none_failed reason moment word rows ticket until leases done none =
 -- ---- rows that are put into their queues
 
 -- the pair at a place, by its ticket
-at_place : (pairs : List (ℕ × ℕ)) (at ticket : ℕ) (found : Option (ℕ × ℕ)) → slice_get pairs at ≡ found
+pub at_place : (pairs : List (ℕ × ℕ)) (at ticket : ℕ) (found : Option (ℕ × ℕ)) → slice_get pairs at ≡ found
     → Some ticket ≡ option_map ticket_in found → (P : List (ℕ × ℕ) → Type 0)
     → ((pair : ℕ × ℕ) → ticket_in pair ≡ ticket → P (pair ∷ drop (at + 1) pairs)) → P (drop at pairs)
 at_place pairs at ticket None here is P holds = absurd (cc)

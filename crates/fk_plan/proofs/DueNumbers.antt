@@ -91,7 +91,7 @@ abbrev wait_moment : Row → Option ℕ
 wait_moment row = waits_until row.place
 
 -- each pair has its row
-length_due : (kept : KeptState) (moment : ℕ) → IsWellKept kept
+pub length_due : (kept : KeptState) (moment : ℕ) → IsWellKept kept
     → length (due kept moment) ≡ length (pairs_due kept moment)
 length_due kept moment well =
     all_found wait_moment kept.rows (pairs_due kept moment)
@@ -108,7 +108,7 @@ up_next_pairs kept moment word well =
 
 -- ---- there are fewer than numbers below the next one
 
-few_rows : (least next : ℕ) (rows : List (ℕ × Row)) → least ≤ next → AllPairs IsLower rows
+pub few_rows : (least next : ℕ) (rows : List (ℕ × Row)) → least ≤ next → AllPairs IsLower rows
     → All (λ filed. least ≤ ticket_of filed) rows → All (λ filed. ticket_of filed < next) rows
     → length rows + least ≤ next
 few_rows least next [] room sorted high low = omega (arith, room)
@@ -127,7 +127,7 @@ given_step : (h : ℕ × Row → Option (ℕ × ℕ)) (filed : ℕ × Row) (rows
 given_step h filed rows None e rest = rw e (omega (arith, rest))
 given_step h filed rows (Some pair) e rest = rw e (omega (arith, rest))
 
-few_given : (h : ℕ × Row → Option (ℕ × ℕ)) (rows : List (ℕ × Row)) → length (filter_map h rows) ≤ length rows
+pub few_given : (h : ℕ × Row → Option (ℕ × ℕ)) (rows : List (ℕ × Row)) → length (filter_map h rows) ≤ length rows
 few_given h [] = omega arith
 few_given h (filed ∷ rows) = given_step h filed rows (h filed) refl (few_given h rows)
 

@@ -31,7 +31,7 @@ use Rattle.fk_model.proofs.UpToDate.{up_rows, up_to_date}
 use Rattle.fk_core.specs.Lookups.{outlasts, leased_beyond}
 use Rattle.fk_plan.proofs.Behind.{rest_of}
 
-abbrev is_held : ℕ → ℕ × Row → Bool
+abbrev pub is_held : ℕ → ℕ × Row → Bool
 is_held moment filed = outlasts moment (row_of filed).place
 
 -- ---- one row
@@ -145,15 +145,20 @@ all_held moment (filed ∷ rows) each =
     (held_there moment (row_of filed).place (All-head (λ x. IsLater moment (row_of x)) filed rows each))
     (all_held moment rows (All-tail (λ x. IsLater moment (row_of x)) filed rows each))
 
+-- the rows that workers have then are those that they had beyond the moment
+pub working_up : (kept : KeptState) (moment word : ℕ) → IsWellKept kept → moment < greatest
+    → working (brought_up kept moment word).rows ≡ filter (is_held moment) kept.rows
+working_up kept moment word well told =
+    all_held moment (brought_up kept moment word).rows (up_to_date kept moment word well told)
+    ∙ ap (filter (is_held moment)) (up_rows kept moment word)
+    ∙ all_passed moment kept.next (kept.next + length (due kept moment)) kept.rows (outcomes_due kept moment word)
+    (are_outcomes kept moment word well) (due_free kept moment word well)
+
 -- the row that an acknowledgement or a failure is of
 pub leased_up : (kept : KeptState) (jid : List ℕ) (moment word : ℕ) → IsWellKept kept → moment < greatest
     → leased (brought_up kept moment word) jid ≡ leased_beyond kept jid moment
 leased_up kept jid moment word well told =
-    ap (find (λ filed. bytes_eq (row_of filed).job.jid jid))
-    (all_held moment (brought_up kept moment word).rows (up_to_date kept moment word well told)
-    ∙ ap (filter (is_held moment)) (up_rows kept moment word)
-    ∙ all_passed moment kept.next (kept.next + length (due kept moment)) kept.rows (outcomes_due kept moment word)
-    (are_outcomes kept moment word well) (due_free kept moment word well))
+    ap (find (λ filed. bytes_eq (row_of filed).job.jid jid)) (working_up kept moment word well told)
 
 -- it stands in the tables
 pub beyond_stands : (kept : KeptState) (jid : List ℕ) (moment : ℕ) (filed : ℕ × Row) → IsByTicket kept.rows

@@ -80,7 +80,7 @@ none_due moment kept on = none_come waits_until moment kept wait_leaves on
 none_over : (moment : ℕ) (kept : KeptState) → IsUpToDate moment kept → over kept moment ≡ []
 none_over moment kept on = ap (rows_of kept.rows) (none_come (moment_in target.Dead) moment kept dead_leaves on)
 
-none_expired : (moment : ℕ) (kept : KeptState) → IsUpToDate moment kept → expired kept moment ≡ []
+pub none_expired : (moment : ℕ) (kept : KeptState) → IsUpToDate moment kept → expired kept moment ≡ []
 none_expired moment kept on =
     filter_none (λ filed. has_come moment (leased_until (row_of filed).place)) kept.rows
     (All-weaker (λ filed. IfSome (leaves_at (row_of filed).place) (λ at. moment < at))

@@ -2,3 +2,6 @@ pub mod Plans
 pub mod Upkeep
 pub mod Merging
 pub mod Arrivals
+pub mod Choosing
+pub mod Taking
+pub mod Tallies

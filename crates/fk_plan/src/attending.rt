@@ -6,7 +6,7 @@ ghost use Rattle.fk_model.specs.Workers.{fresh, state_of};
 ghost use Rattle.fk_model.specs.Said.{ok, said, state_told, unknown_worker};
 ghost use Rattle.fk_plan.specs.Plans.{left_of};
 
-use crate::replies::{not_served, ok, state_told, unknown_worker};
+use crate::replies::{ok, state_told, unknown_worker};
 use fk_frame::Reply;
 use fk_json::Text;
 use fk_model::Ask;
@@ -21,11 +21,9 @@ pub(crate) fn attend(alloc: Global, workers: &Workers, ask: &Ask, moment: u64) -
         ≡ (said (with_workers kept (fresh moment workers.now.workers)) ask.now moment word).reply }
 {
     match ask {
-        Ask::Hello { .. } => ok(alloc),
         Ask::Beat { wid } => beat(alloc, workers, wid, moment),
         Ask::Signal { wid, .. } => signal(alloc, workers, wid, moment),
-        Ask::Tick => ok(alloc),
-        _ => not_served(alloc),
+        _ => ok(alloc),
     }
 }
 

@@ -17,11 +17,12 @@ use fk_json::Pairs;
 use fk_model::{Moves, Target};
 use std::alloc::{AllocError, Global};
 
-/// What bringing the state up to a moment comes to: the numbers behind it, and the moments and tickets of
-/// the rows that were put into their queues, in order.
+/// What bringing the state up to a moment comes to: the numbers behind it, how many reservations had run
+/// out, and the moments and tickets of the rows that were put into their queues, in order.
 #[derive(Drop)]
 pub(crate) struct BroughtUp {
     pub(crate) numbers: Numbers,
+    pub(crate) expired: u64,
     pub(crate) due: Pairs,
 }
 
@@ -46,15 +47,17 @@ pub(crate) fn bring_up(
     if tables.nothing_due(moment) {
         return Ok(BroughtUp {
             numbers,
+            expired: 0,
             due: Pairs::new(alloc),
         });
     }
     forget(alloc, tables, moment, moves)?;
-    let failed = expire(alloc, tables, moment, word, moves)?;
+    let expired = expire(alloc, tables, moment, word, moves)?;
     let due = pairs_due(alloc, tables, moment)?;
     enqueue(tables, &due, numbers.next, moment, moves)?;
     Ok(BroughtUp {
-        numbers: numbers.behind(failed, due.len() as u64),
+        numbers: numbers.behind(expired, due.len() as u64),
+        expired,
         due,
     })
 }

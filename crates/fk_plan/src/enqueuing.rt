@@ -62,7 +62,7 @@ fn put_waiting(row: &Row, ticket: u64, rank: u64, moment: u64) -> Result<Move, A
 }
 
 /// An equal failure, if there is one.
-fn copied(failure: &Option<Failure>) -> Result<Option<Failure>, AllocError>
+pub(crate) fn copied(failure: &Option<Failure>) -> Result<Option<Failure>, AllocError>
     ensures { IfOk result (λ copy. copy ≡ failure.now) }
 {
     match failure {

@@ -6,7 +6,7 @@ ghost use Rattle.fk_model.specs.Range.{IsInRange};
 ghost use Rattle.fk_model.specs.Between.{IsAboveAll, IsWellKept};
 ghost use Rattle.fk_model.specs.Due.{IsUpToDate};
 ghost use Rattle.fk_model.specs.Changes.{Lead};
-ghost use Rattle.fk_model.specs.Bringing.{brought_up};
+ghost use Rattle.fk_model.specs.Bringing.{brought_up, moves_up};
 ghost use Rattle.fk_model.specs.Turns.{moves_of_turn, turn, up_to_date};
 ghost use Rattle.fk_model.specs.History.{IsOverLimit};
 ghost use Rattle.fk_plan.specs.Plans.{is_ack_or_beat, left_of, IsDone, IsPlan};
@@ -17,9 +17,12 @@ use crate::attending::attend;
 use crate::bringing::{BroughtUp, bring_up};
 use crate::closing::close;
 use crate::failing::Reason;
+use crate::flushing::flush;
 use crate::holding::fetch_unless_held;
+use crate::mutating::{Mutation, mutate};
 use crate::pushing::{push, push_batch};
 use crate::reporting::report;
+use crate::telling::tell;
 use fk_core::Tables;
 use fk_frame::Reply;
 use fk_model::{Ask, Moves};
@@ -133,6 +136,7 @@ fn act(
     requires range { IsInRange ask.old }
     requires kept { IsWellKept tables.now.kept }
     requires up { IsBroughtUp tables.now.kept moment word up.old }
+    requires made { moves.old.items ≡ moves_up tables.now.kept moment word }
     requires next { (brought_up tables.now.kept moment word).next ≤ 2 ^ 63 }
     ensures ok { IfOk result (λ reply. IsDone tables.now.kept
         (up_to_date (with_workers tables.now.kept workers.now.workers) moment word) ask.old moment
@@ -173,6 +177,20 @@ fn act(
                 &mut up.numbers,
                 moves,
             )
+        }
+        Ask::Info => tell(alloc, tables, up, moment, moves),
+        Ask::Flush => flush(alloc, tables, &mut up.numbers, moves),
+        Ask::Mutate {
+            cmd,
+            target,
+            filter,
+        } => {
+            let mutation = Mutation {
+                cmd,
+                target,
+                filter,
+            };
+            mutate(alloc, tables, &mutation, moment, &mut up.numbers, moves)
         }
         other => {
             *ask = other;

@@ -1,5 +1,5 @@
 ghost use Rattle.std.specs.Prelude.{◌≡◌};
-ghost use Rattle.fk_model.specs.Said.{not_served, ok, state_told, unknown_job, unknown_worker};
+ghost use Rattle.fk_model.specs.Said.{ok, state_told, unknown_job, unknown_worker};
 
 use fk_frame::Reply;
 use fk_json::Text;
@@ -36,11 +36,4 @@ pub(crate) fn state_told(alloc: Global, state: WorkState) -> Reply
         WorkState::Quiet => Reply::Bulk(Text::fixed(alloc, b"{\"state\":\"quiet\"}")),
         WorkState::Terminate => Reply::Bulk(Text::fixed(alloc, b"{\"state\":\"terminate\"}")),
     }
-}
-
-/// The ask isn't served yet. It takes no memory.
-pub(crate) fn not_served(alloc: Global) -> Reply
-    ensures { result ≡ not_served }
-{
-    Reply::Error(Text::fixed(alloc, b"ERR Not served yet"))
 }

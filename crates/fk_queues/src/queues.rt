@@ -72,6 +72,14 @@ impl Queues {
         self.lists.remove(queue, 0)
     }
 
+    /// The number of a queue's rows.
+    pub fn count(&self, queue: &Text) -> usize
+        ensures value { result ≡ length (list_at self.now.items queue.now) }
+        ensures order { AreByRank self.now.items }
+    {
+        self.lists.len(queue)
+    }
+
     /// Adds the ranks and tickets of a queue, by rank, at the end, or leaves `out` as it is.
     pub fn listed(&self, queue: &Text, out: &mut Pairs) -> Result<(), AllocError>
         ensures ok { OnOk result (out.new.items ≡ out.old.items ++ list_at self.now.items queue.now) }

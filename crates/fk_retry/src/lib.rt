@@ -3,4 +3,4 @@
 
 mod schedule;
 
-pub use schedule::failed;
+pub use schedule::{end_of_dead, failed};

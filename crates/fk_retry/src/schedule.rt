@@ -1,6 +1,6 @@
 ghost use Rattle.std.specs.Prelude.{◌≡◌, ◌<◌, ◌≤◌, ◌^◌};
 ghost use Rattle.fk_model.specs.Limits.{later_by};
-ghost use Rattle.fk_model.specs.Fate.{chance, delay, fate, most_counted, next_try};
+ghost use Rattle.fk_model.specs.Fate.{chance, delay, end_of_dead, fate, most_counted, next_try};
 
 use fk_model::Fate;
 use fk_time::GREATEST;
@@ -24,8 +24,16 @@ pub fn failed(retry: i64, count: u64, ticket: u64, word: u64, moment: u64) -> Fa
     match u64::try_from(retry) {
         Ok(0) => Fate::Drop,
         Ok(times) if count < times => Fate::Retry(next_try(count, ticket, word, moment)),
-        _ => Fate::Dead(later_by(DEAD_FOR, moment)),
+        _ => Fate::Dead(end_of_dead(moment)),
     }
+}
+
+/// When a job that is dead from a moment on is forgotten, 180 days later, and at most at the greatest moment:
+/// both are in milliseconds since 1970-01-01T00:00:00Z. It takes no memory.
+pub fn end_of_dead(moment: u64) -> u64
+    ensures { result ≡ end_of_dead moment }
+{
+    later_by(DEAD_FOR, moment)
 }
 
 /// When a job is tried again.

@@ -1,15 +1,16 @@
 -- A line gives something, or it ends the talk.
-use Rattle.std.proofs.Common.{◌≡◌, ℕ, ◌<◌, Bool, true, false, List, [], ◌∷◌, ◌++◌, length, Option, None, Some, inl, inr, refl, ap, arith, codes, length-append}
-use Rattle.std.specs.Prelude.{◌⊎◌, ◌≢◌, if◌then◌else◌}
+use Rattle.std.proofs.Common.{◌≡◌, ◌∙◌, ℕ, ◌<◌, Bool, true, false, List, [], ◌∷◌, ◌++◌, length, Option, None, Some, inl, inr, refl, ap, arith, length-append}
+use Rattle.std.specs.Prelude.{◌⊎◌, ◌≢◌}
 use Rattle.fk_frame.specs.declared.line_reader.Line.{Line}
 use Rattle.fk_frame.specs.declared.line_reader.Line.TheVariants.{Whole, Need, TooLong}
 use Rattle.fk_model.specs.declared.gate.Gate.{Gate}
 use Rattle.fk_model.specs.declared.item.Item.{Item}
-use Rattle.fk_model.specs.Commands.{arguments, has_verb}
-use Rattle.fk_model.specs.Script.{AreGiven, AreItemsFrom, AreItemsOf, Command, ack, batch, beat, command_of, end, ends_handshake, ends_talk, fail, fetch, handshake_items, has_end, hello, push, signal, talk_from, unknown}
+use Rattle.fk_model.specs.Commands.{arguments}
+use Rattle.fk_model.specs.Script.{AreGiven, AreItemsFrom, AreItemsOf, Command, ack, batch, beat, command_of, end, ends_handshake, ends_talk, fail, fetch, flush, handshake_items, has_end, hello, info, mutate, push, signal, talk_from, unknown}
 use Rattle.fk_talk.specs.declared.standing.Standing.{Standing}
 use Rattle.fk_talk.specs.declared.standing.Standing.TheVariants.{Nobody, Somebody, Over}
 use Rattle.fk_talk.specs.Advance.{AreDueFrom, ends_from}
+use Rattle.fk_talk.proofs.Behind.{is_end, is_end-of}
 
 -- ---- before a HELLO was accepted
 
@@ -24,6 +25,9 @@ some_before gate ack text going = omega arith
 some_before gate fail text going = omega arith
 some_before gate beat text going = omega arith
 some_before gate signal text going = omega arith
+some_before gate info text going = omega arith
+some_before gate flush text going = omega arith
+some_before gate mutate text going = omega arith
 some_before gate unknown text going = omega arith
 
 -- ---- behind one
@@ -32,28 +36,21 @@ one_is_some : (item : Item) (items : List Item) → items ≡ item ∷ [] → 0 
 one_is_some item items is = omega (arith, ap length is)
 
 -- a command that isn't END gives one item
-some_behind : (is_hello is_push is_batch is_fetch is_ack is_fail is_beat is_signal : Bool) (wid text : List ℕ)
-    (items : List Item) → AreGiven wid
-    (if is_hello then hello else
-    (if is_push then push else
-    (if is_batch then batch else
-    (if is_fetch then fetch else
-    (if is_ack then ack else
-    (if is_fail then fail else (if is_beat then beat else (if is_signal then signal else unknown))))))))
-    text items → 0 < length items
-some_behind true b c d e f g h wid text items (item, given, is) = one_is_some item items is
-some_behind false true c d e f g h wid text items (item, given, is) = one_is_some item items is
-some_behind false false true d e f g h wid text items (item, given, is) = one_is_some item items is
-some_behind false false false true e f g h wid text items (item, given, is) = one_is_some item items is
-some_behind false false false false true f g h wid text items (item, given, is) = one_is_some item items is
-some_behind false false false false false true g h wid text items (item, given, is) =
-    one_is_some item items is
-some_behind false false false false false false true h wid text items (item, given, is) =
-    one_is_some item items is
-some_behind false false false false false false false true wid text items (item, given, is) =
-    one_is_some item items is
-some_behind false false false false false false false false wid text items (item, given, is) =
-    one_is_some item items is
+some_behind : (wid : List ℕ) (command : Command) (text : List ℕ) (items : List Item) → is_end command ≡ false
+    → AreGiven wid command text items → 0 < length items
+some_behind wid end text items going are = cc
+some_behind wid hello text items going (item, given, is) = one_is_some item items is
+some_behind wid push text items going (item, given, is) = one_is_some item items is
+some_behind wid batch text items going (item, given, is) = one_is_some item items is
+some_behind wid fetch text items going (item, given, is) = one_is_some item items is
+some_behind wid ack text items going (item, given, is) = one_is_some item items is
+some_behind wid fail text items going (item, given, is) = one_is_some item items is
+some_behind wid beat text items going (item, given, is) = one_is_some item items is
+some_behind wid signal text items going (item, given, is) = one_is_some item items is
+some_behind wid info text items going (item, given, is) = one_is_some item items is
+some_behind wid flush text items going (item, given, is) = one_is_some item items is
+some_behind wid mutate text items going (item, given, is) = one_is_some item items is
+some_behind wid unknown text items going (item, given, is) = one_is_some item items is
 
 -- ---- a line
 
@@ -64,10 +61,7 @@ unfolding AreItemsOf ends_talk
 some_given gate None line items are going =
     omega (arith, ap length are, some_before gate (command_of line) (arguments line) going)
 some_given gate (Some wid) line items are going =
-    some_behind (has_verb (codes "HELLO") line) (has_verb (codes "PUSH") line) (has_verb (codes "PUSHB") line)
-    (has_verb (codes "FETCH") line) (has_verb (codes "ACK") line) (has_verb (codes "FAIL") line)
-    (has_verb (codes "BEAT") line) (has_verb (codes "SIGNAL") line) wid (arguments line) items
-    (rw going at are)
+    some_behind wid (command_of line) (arguments line) items (is_end-of line ∙ going) are
 
 -- a line that gives nothing ends the talk
 gives_or_ends : (gate : Gate) (speaker : Option (List ℕ)) (line : List ℕ) (items : List Item) (ends : Bool)

@@ -1,7 +1,7 @@
 -- What a turn leaves: the kept state, and the workers, of whom what is left of its ask tells enough.
 use Rattle.std.proofs.Common.{◌≡◌, ◌∙◌, refl, ap, sym, subst, ℕ, List}
 use Rattle.fk_model.specs.declared.ask.Ask.{Ask}
-use Rattle.fk_model.specs.declared.ask.Ask.TheVariants.{Push, PushBatch, Fetch, Ack, Fail}
+use Rattle.fk_model.specs.declared.ask.Ask.TheVariants.{Hello, Push, PushBatch, Fetch, Ack, Fail, Beat, Signal, Info, Flush, Mutate, Tick}
 use Rattle.fk_model.specs.declared.entry.Entry.{Entry}
 use Rattle.fk_model.specs.State.{KeptState, State, Worker, with_workers}
 use Rattle.fk_model.specs.Workers.{after_turn}
@@ -17,7 +17,13 @@ ready_left (PushBatch jobs told) roll ready = tt
 ready_left (Fetch wid queues) roll ready = tt
 ready_left (Ack jid) roll ready = tt
 ready_left (Fail jid errtype message backtrace) roll ready = tt
-ready_left other roll ready = ready
+ready_left (Hello wid) roll ready = ready
+ready_left (Beat wid) roll ready = ready
+ready_left (Signal wid given) roll ready = ready
+ready_left Info roll ready = tt
+ready_left Flush roll ready = tt
+ready_left (Mutate cmd target filter) roll ready = tt
+ready_left Tick roll ready = tt
 
 -- what is left of an ask needs no more memory than the ask
 pub still_ready : (ask left : Ask) (roll : Roll) → left ≡ left_of ask → IsReady ask roll → IsReady left roll
@@ -31,7 +37,13 @@ left_acts (PushBatch jobs told) moment workers = refl
 left_acts (Fetch wid queues) moment workers = refl
 left_acts (Ack jid) moment workers = refl
 left_acts (Fail jid errtype message backtrace) moment workers = refl
-left_acts other moment workers = refl
+left_acts (Hello wid) moment workers = refl
+left_acts (Beat wid) moment workers = refl
+left_acts (Signal wid given) moment workers = refl
+left_acts Info moment workers = refl
+left_acts Flush moment workers = refl
+left_acts (Mutate cmd target filter) moment workers = refl
+left_acts Tick moment workers = refl
 
 state_is : (state : State) (kept : KeptState) (workers : List Worker) → kept ≡ state.kept
     → workers ≡ state.workers → with_workers kept workers ≡ state

@@ -13,7 +13,7 @@ use Rattle.fk_frame.specs.declared.reply.Reply.TheVariants.{Nil}
 use Rattle.fk_frame.specs.Replies.{IsWellFormed}
 use Rattle.fk_time.specs.Moments.{greatest}
 use Rattle.fk_model.specs.declared.ask.Ask.{Ask}
-use Rattle.fk_model.specs.declared.ask.Ask.TheVariants.{Hello, Push, PushBatch, Fetch, Ack, Fail, Beat, Signal, Tick}
+use Rattle.fk_model.specs.declared.ask.Ask.TheVariants.{Hello, Push, PushBatch, Fetch, Ack, Fail, Beat, Signal, Info, Flush, Mutate, Tick}
 use Rattle.fk_model.specs.declared.work_state.WorkState.{WorkState}
 use Rattle.fk_model.specs.declared.work_state.WorkState.TheVariants.{Running, Quiet, Terminate}
 use Rattle.fk_model.specs.declared.answer.Answer.{Answer}
@@ -219,8 +219,10 @@ said_in_form s (Fail jid errtype message backtrace) moment word =
     (leased s.kept jid)
 said_in_form s (Beat wid) moment word = told_in_form (state_of wid s.workers)
 said_in_form s (Signal wid given) moment word = signalled_in_form (state_of wid s.workers)
+said_in_form s Info moment word = search rules
+said_in_form s Flush moment word = search rules
+said_in_form s (Mutate cmd target filter) moment word = search rules
 said_in_form s Tick moment word = search rules
-said_in_form s other moment word = search rules
 
 -- so is each answer that is right
 answer_in_form : (s : State) (entry : Entry) (answer : Answer) → IsRightAnswer s entry answer

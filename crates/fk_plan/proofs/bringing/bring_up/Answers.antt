@@ -1,8 +1,8 @@
-use Rattle.std.proofs.Common.{◌∙◌, refl, sym, ap, arith}
+use Rattle.std.proofs.Common.{◌∙◌, refl, sym, ap, length, arith}
 use Rattle.fk_model.specs.State.{KeptState}
 use Rattle.fk_model.specs.Due.{IsUpToDate}
 use Rattle.fk_plan.proofs.DueNumbers.{up_next_pairs, up_processed, up_failures, ranks_fit}
-use Rattle.fk_plan.proofs.NothingDue.{none_due, no_moves, stays, not_idle}
+use Rattle.fk_plan.proofs.NothingDue.{none_due, none_expired, no_moves, stays, not_idle}
 use Rattle.fk_plan.proofs.bringing.bring_up.Goals as goal
 
 -- ---- nothing is due
@@ -17,6 +17,7 @@ returns-then-nothing_due-clause-ok c =
       next = c.of-numbers.ensures.next ∙ ap (λ (kept : KeptState). kept.next) same;
       processed = c.of-numbers.ensures.processed ∙ ap (λ (kept : KeptState). kept.processed) same;
       failures = c.of-numbers.ensures.failures ∙ ap (λ (kept : KeptState). kept.failures) same;
+      expired = ap length (sym (none_expired c.args.moment c.args.tables.now.kept (on c)));
       due = c.new.ensures ∙ sym (none_due c.args.moment c.args.tables.now.kept (on c));
     }
 
@@ -30,8 +31,8 @@ pub returns-in_err-forget-clause-ready : goal.returns-in_err-forget-clause-ready
 returns-in_err-forget-clause-ready c =
     not_idle c.nothing_due.result c.if-nothing_due.false c.nothing_due.ensures.1
 
-pub returns-in_err-failed-clause-ready : goal.returns-in_err-failed-clause-ready
-returns-in_err-failed-clause-ready c =
+pub returns-in_err-expired-clause-ready : goal.returns-in_err-expired-clause-ready
+returns-in_err-expired-clause-ready c =
     not_idle c.nothing_due.result c.if-nothing_due.false c.nothing_due.ensures.1
 
 pub returns-in_err-due-clause-ready : goal.returns-in_err-due-clause-ready
@@ -57,9 +58,10 @@ pub returns-clause-ok : goal.returns-clause-ok
 returns-clause-ok c = record {
   next = rw (c.behind.ensures.next, c.len.ensures, c.of-numbers.ensures.next, c.in_ok-due.ensures)
       (up_next_pairs c.args.tables.now.kept c.args.moment c.args.word c.requires.kept);
-  processed = rw (c.behind.ensures.processed, c.of-numbers.ensures.processed, c.in_ok-failed.ensures.count)
+  processed = rw (c.behind.ensures.processed, c.of-numbers.ensures.processed, c.in_ok-expired.ensures.count)
       (up_processed c.args.tables.now.kept c.args.moment c.args.word c.requires.kept);
-  failures = rw (c.behind.ensures.failures, c.of-numbers.ensures.failures, c.in_ok-failed.ensures.count)
+  failures = rw (c.behind.ensures.failures, c.of-numbers.ensures.failures, c.in_ok-expired.ensures.count)
       (up_failures c.args.tables.now.kept c.args.moment c.args.word c.requires.kept);
+  expired = c.in_ok-expired.ensures.count;
   due = c.in_ok-due.ensures;
 }
