@@ -1,0 +1,14 @@
+pub mod Aligned
+pub mod FieldLaws
+pub mod PartLaw
+pub mod Filled
+pub mod Repeated
+pub mod Stepping
+pub mod ByteLaws
+pub mod Bounds
+pub mod Guards
+pub mod NamedLaws
+pub mod QueueLaws
+pub mod RowLaws
+pub mod SpelledRows
+pub mod ListLaws
