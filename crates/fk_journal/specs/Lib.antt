@@ -1,0 +1,9 @@
+pub mod Limits
+pub mod Pieces
+pub mod Standing
+pub mod Passing
+pub mod Reading
+pub mod Faults
+pub mod Gates
+pub mod Causes
+pub mod JournalState

@@ -1,0 +1,17 @@
+//! One file of pieces behind gates: a piece counts where its gate is open, and a crash at any moment
+//! of an append leaves the file without the piece or with it.
+#![tactic(auto)]
+
+mod fault;
+mod framing;
+mod journal;
+mod parts;
+mod reading;
+mod replaying;
+#[cfg(test)]
+mod tests;
+mod writing;
+
+pub use fault::{Damage, File, OpenFault, Refused, Replay};
+pub use framing::frame;
+pub use journal::Journal;
