@@ -10,6 +10,7 @@ mod json;
 mod lines;
 mod lists;
 mod moments;
+mod moves;
 mod payloads;
 mod replies;
 mod spelling;
