@@ -2,7 +2,7 @@ use crate::answer::Answer;
 use crate::decoder::decoded;
 use crate::fault::Fault;
 use crate::words::{first_word, texts_in};
-use crate::{json, lines, lists, moments, moves, payloads, replies, streams};
+use crate::{json, lines, lists, moments, moves, payloads, pieces, replies, streams};
 
 /// Runs the calls that a line of the script asks for, and says what came of them.
 pub(crate) fn answer_case(answer: &mut Answer, line: &str) -> Result<(), Fault> {
@@ -17,6 +17,8 @@ pub(crate) fn answer_case(answer: &mut Answer, line: &str) -> Result<(), Fault> 
         "replies" => streams::replies(answer, rest),
         "pairs" => lists::pairs(answer, rest),
         "moves" => moves::moves(answer, rest),
+        "piece" => pieces::piece(answer, rest),
+        "pieces" => pieces::pieces(answer, rest),
         "text" | "texts" | "jobs" => answer_texts(answer, kind, rest),
         _ => answer_text(answer, kind, rest),
     }

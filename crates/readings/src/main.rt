@@ -5,6 +5,7 @@
 mod answer;
 mod case;
 mod decoder;
+mod digits;
 mod fault;
 mod json;
 mod lines;
@@ -12,6 +13,7 @@ mod lists;
 mod moments;
 mod moves;
 mod payloads;
+mod pieces;
 mod replies;
 mod spelling;
 mod streams;

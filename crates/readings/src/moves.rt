@@ -3,11 +3,11 @@ ghost use Rattle.std.specs.Prelude.{All};
 ghost use Rattle.fk_model.specs.Spellings.{HasSpelling};
 
 use crate::answer::Answer;
+use crate::digits::hexadecimal;
 use crate::fault::Fault;
 use fk_json::Buffer;
 use fk_model::{Move, Moves, Place};
 use fk_moves::{MovesFault, moves_length, read_moves, write_moves};
-use std::alloc::Global;
 
 /// `moves HEXADECIMAL`: the moves that the bytes spell and whether they are written alike, or how many
 /// bytes begin a list; and the same of each front of the bytes, from the shortest on.
@@ -103,27 +103,4 @@ fn say_cut(answer: &mut Answer, front: &[u8]) -> Result<(), Fault> {
         }
         Err(fault) => refuse(answer, fault),
     }
-}
-
-/// The bytes that a text of hexadecimal digits says, two digits each, with spaces anywhere between.
-fn hexadecimal(alloc: Global, text: &str) -> Result<Vec<u8>, Fault> {
-    let mut bytes = Vec::new(alloc);
-    let mut high = None;
-    for character in text.chars() {
-        if character == ' ' {
-            continue;
-        }
-        let Some(digit) = character.to_digit(16) else {
-            return Err(Fault::BadLine);
-        };
-        let digit = digit as u8;
-        match high.take() {
-            None => high = Some(digit),
-            Some(high) => bytes.push(high.saturating_mul(16).saturating_add(digit))?,
-        }
-    }
-    if high.is_some() {
-        return Err(Fault::BadLine);
-    }
-    Ok(bytes)
 }

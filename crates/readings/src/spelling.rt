@@ -42,6 +42,6 @@ fn spell_byte(out: &mut Vec<u8>, byte: u8) -> Result<(), AllocError> {
 }
 
 /// The hexadecimal digit of a value, or of its last one.
-fn digit_of(value: u8) -> u8 {
+pub(crate) fn digit_of(value: u8) -> u8 {
     b"0123456789abcdef"[usize::from(value % 16)]
 }
