@@ -247,4 +247,49 @@ mod tests {
         assert_eq!(rt; disk.faults(), 1);
         Ok(fs::remove_dir_all(&rt, folder.as_str())?)
     }
+
+    #[test]
+    fn a_folder_in_the_place_of_the_file_is_a_fault_of_each_call(
+        rt: HostRuntime,
+    ) -> Result<(), Fail> {
+        let folder = new_folder(rt)?;
+        let path = format!(in rt.alloc(); "{folder}/a")?;
+        fs::create_dir(&rt, path.as_str())?;
+        let mut disk = FileDisk::at(rt, rt.alloc(), path.as_str())?;
+        let mut buffer = [0; 1];
+        assert_eq!(rt; disk.write_at(0, b"abc"), Err(Failed));
+        assert_eq!(rt; disk.cut(0), Err(Failed));
+        assert_eq!(rt; disk.sync(), Err(Failed));
+        assert_eq!(rt; disk.len(), Err(Failed));
+        assert_eq!(rt; disk.read_at(0, &mut buffer), Err(Failed));
+        assert_eq!(rt; disk.faults(), 5);
+        fs::remove_dir(&rt, path.as_str())?;
+        assert_eq!(rt; disk.write_at(0, b"abc"), Ok(()));
+        assert_eq!(rt; disk.len(), Ok(3));
+        assert_eq!(rt; disk.faults(), 5);
+        Ok(fs::remove_dir_all(&rt, folder.as_str())?)
+    }
+
+    #[test]
+    fn what_the_system_refuses_to_write_is_a_fault(rt: HostRuntime) -> Result<(), Fail> {
+        let folder = new_folder(rt)?;
+        let path = format!(in rt.alloc(); "{folder}/a")?;
+        let mut disk = FileDisk::at(rt, rt.alloc(), path.as_str())?;
+        assert_eq!(rt; disk.write_at(0, b"abc"), Ok(()));
+        // No file is as long as this, whoever writes it.
+        let beyond = i64::MAX as u64;
+        assert_eq!(rt; disk.write_at(beyond, b"xy"), Err(Failed));
+        assert_eq!(rt; disk.write_at(u64::MAX, b"xy"), Err(Failed));
+        assert_eq!(rt; disk.cut(u64::MAX), Err(Failed));
+        assert_eq!(rt; disk.faults(), 3);
+        let mut buffer = [0; 3];
+        assert_eq!(rt; disk.read_at(0, &mut buffer), Ok(()));
+        assert_eq!(rt; buffer, *b"abc");
+        assert_eq!(rt; disk.len(), Ok(3));
+        assert_eq!(rt; disk.write_at(3, b"d"), Ok(()));
+        assert_eq!(rt; disk.sync(), Ok(()));
+        assert_eq!(rt; disk.len(), Ok(4));
+        assert_eq!(rt; disk.faults(), 3);
+        Ok(fs::remove_dir_all(&rt, folder.as_str())?)
+    }
 }

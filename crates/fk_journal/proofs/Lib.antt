@@ -4,7 +4,7 @@ pub mod Writes
 pub mod Settling
 pub mod Appending
 pub mod Spelled
-mod Readings
+pub mod Readings
 mod Taking
 mod Due
 mod Fresh

@@ -16,7 +16,7 @@ IsGate place file (Open left) = (length file ≡ place + 1 + left) × (slice_ind
 -- what it was found to be ends within the places that there are
 abbrev pub IsPlaced : ℕ → Gate → Type 0
 IsPlaced place Missing = Unit {0}
-IsPlaced place Closed = Unit {0}
+IsPlaced place Closed = place + 1 < 2 ^ 64
 IsPlaced place (Open left) = place + 1 + left < 2 ^ 64
 
 -- the number and the length are spelled from this place on

@@ -6,13 +6,13 @@ use fk_json::Buffer;
 use std::alloc::AllocError;
 
 /// The gate byte of a piece that counts.
-pub(crate) const OPEN_GATE: u8 = 1;
+pub const OPEN_GATE: u8 = 1;
 
 /// The gate byte that is written where no piece counts.
-pub(crate) const CLOSED_GATE: u8 = 0;
+pub const CLOSED_GATE: u8 = 0;
 
 /// The bytes of a framed piece besides its moves.
-const OVERHEAD: usize = 17;
+pub const OVERHEAD: usize = 17;
 
 /// Puts the piece with this number and these moves into an empty buffer, as it is handed in to be
 /// written: number, length, moves, and the closed gate behind it. Without memory the buffer stays empty.
@@ -22,6 +22,7 @@ pub fn frame(out: &mut Buffer, number: u64, moves: &[u8]) -> Result<(), AllocErr
     ensures ok { OnOk result (out.new.items ≡ framed number moves.now) }
     ensures err { OnErr result (out.new.items ≡ []) }
     ensures ready { length moves.now + overhead ≤ out.old.spare → IsOk result }
+    ensures kept { out.old.spare ≤ length out.new.items + out.new.spare }
 {
     out.reserve(moves.len() + OVERHEAD)?;
     put(out, &number.to_be_bytes());

@@ -13,10 +13,10 @@ use fk_io::Failed;
 use std::marker::Model;
 
 /// The most bytes of a file, up to its last piece and the closed gate behind it.
-pub(crate) const GREATEST_FILE: u64 = 1 << 40;
+pub const GREATEST_FILE: u64 = 1 << 40;
 
 /// The greatest number of a piece.
-pub(crate) const GREATEST_NUMBER: u64 = 1 << 62;
+pub const GREATEST_NUMBER: u64 = 1 << 62;
 
 /// One file of pieces. Each is replayed once, and then more are appended. Places are in bytes.
 #[derive(Drop)]

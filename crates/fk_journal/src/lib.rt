@@ -13,5 +13,6 @@ mod tests;
 mod writing;
 
 pub use fault::{Damage, File, OpenFault, Refused, Replay};
-pub use framing::frame;
-pub use journal::Journal;
+pub use framing::{CLOSED_GATE, OPEN_GATE, OVERHEAD, frame};
+pub use journal::{GREATEST_FILE, GREATEST_NUMBER, Journal};
+pub use parts::write_surely;

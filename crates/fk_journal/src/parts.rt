@@ -8,7 +8,7 @@ use fk_io::Failed;
 
 /// Writes bytes over those from a place on, and makes sure of them.
 #[tactic(auto, using(fk_disk::proofs::Overwriting::overwrites_whole))]
-pub(crate) fn write_surely<D: Disk>(disk: &mut D, at: u64, bytes: &[u8]) -> Result<(), Failed>
+pub fn write_surely<D: Disk>(disk: &mut D, at: u64, bytes: &[u8]) -> Result<(), Failed>
     requires within { IsTrue (D.told disk.old) → at ≤ length (D.content disk.old) }
     ensures told { D.told disk.new ≡ D.told disk.old }
     ensures ok { IsTrue (D.told disk.old) → OnOk result

@@ -1,5 +1,6 @@
-ghost use Rattle.std.specs.Prelude.{◌≡◌, ◌+◌, ◌++◌, ◌^◌, ◌<◌, ◌≤◌, [], length, drop, true, false, IsTrue, Err, Ok, None, IfOk, OnErr, OnOk};
+ghost use Rattle.std.specs.Prelude.{◌≡◌, ◌+◌, ◌++◌, ◌^◌, ◌<◌, ◌≤◌, [], length, take, drop, true, false, IsTrue, Err, Ok, None, IfOk, OnErr, OnOk};
 ghost use Rattle.fk_journal.specs.Causes.{HasFaultCause};
+ghost use Rattle.fk_journal.specs.Faults.{IsUndamaged};
 ghost use Rattle.fk_journal.specs.Gates.{IsGate, IsWrong};
 ghost use Rattle.fk_journal.specs.Limits.{greatest_number, overhead};
 ghost use Rattle.fk_journal.specs.Pieces.{BeginWith, IsClosedAfter, IsDamagedAt, opened};
@@ -19,6 +20,33 @@ use fk_json::Buffer;
 const HEAD: u64 = 16;
 
 impl<D: Disk> Journal<D> {
+    /// Puts so many bytes from a place on into the buffer, in the place of what it had. They lie within the
+    /// length. The journal stands where it stood. After a refusal the buffer may hold anything.
+    pub fn read(&mut self, at: u64, count: usize, into: &mut Buffer) -> Result<(), OpenFault>
+        requires range { at + count < 2 ^ 64 }
+        requires within { IsTrue (D.told self.old.disk) →
+            at + count ≤ length (D.content self.old.disk) }
+        ensures ok { IsTrue (D.told self.old.disk) → OnOk result
+            (into.new.items ≡ take count (drop at (D.content self.old.disk))) }
+        ensures count { OnOk result (length into.new.items ≡ count) }
+        ensures front { IsTrue (D.told self.old.disk) → self.new.front ≡ self.old.front }
+        ensures place { self.new.place ≡ self.old.place }
+        ensures number { self.new.number ≡ self.old.number }
+        ensures done { self.new.done ≡ self.old.done }
+        ensures file { self.new.file ≡ self.old.file }
+        ensures free { self.old.owed ≡ None → self.new.owed ≡ None }
+        ensures err { IsUndamaged result }
+        ensures reads { OnlyReads (D.told self.old.disk) (D.told self.new.disk)
+            (D.content self.old.disk) (D.content self.new.disk)
+            (D.moment self.old.disk) (D.moment self.new.disk)
+            (D.images self.old.disk) (D.images self.new.disk) }
+        ensures cause { HasFaultCause (result ≡ Err DiskFault)
+            (D.fault_count self.old.disk) (D.fault_count self.new.disk) }
+    {
+        into.clear();
+        copy_into(&mut self.disk, at, count, into)
+    }
+
     /// Puts the moves of the next piece into the buffer, in the place of what it had, or comes to the end:
     /// a gate byte that isn't 1, behind which nothing is read. A piece that is cut, has a wrong number or
     /// one above the greatest is a damage, told at its gate's place, and so is a file that ends before a
@@ -42,6 +70,7 @@ impl<D: Disk> Journal<D> {
         ensures number_stays { result ≡ Ok Done → self.new.number ≡ self.old.number }
         ensures front_stays { IsTrue (D.told self.old.disk) → result ≡ Ok Done →
             self.new.front ≡ self.old.front }
+        ensures within { result ≡ Ok Done → self.old.done ≡ false → self.new.place + 1 < 2 ^ 64 }
         ensures again { IsTrue self.old.done → result ≡ Ok Done }
         ensures same { IsTrue self.old.done → self.new ≡ self.old }
         ensures err_place { OnErr result (self.new.place ≡ self.old.place) }
