@@ -1,0 +1,9 @@
+pub mod Files
+pub mod Standing
+pub mod Damages
+pub mod OnDisk
+pub mod Doubt
+pub mod Lives
+pub mod Crashes
+pub mod Ways
+pub mod Causes
