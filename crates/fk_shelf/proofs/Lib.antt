@@ -1,0 +1,5 @@
+pub mod Roads
+mod Numbers
+mod NewFile
+mod Found
+mod Opened

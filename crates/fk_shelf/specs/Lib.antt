@@ -1,0 +1,4 @@
+pub mod ShelfState
+pub mod Held
+pub mod Opening
+pub mod Making
