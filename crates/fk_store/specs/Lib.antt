@@ -1,0 +1,4 @@
+pub mod StoreState
+pub mod Replaying
+pub mod RoomForTurns
+pub mod Turning
