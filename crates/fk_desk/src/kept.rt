@@ -30,6 +30,7 @@ pub trait Kept {
 
     /// How often a call of each disk has failed. It never falls.
     ghost faults_a: { Self → ℕ };
+
     ghost faults_b: { Self → ℕ };
 
     /// What the last turn told of itself.
@@ -37,8 +38,11 @@ pub trait Kept {
 
     /// The own moment of each disk, and what a crash may leave of it at each of its moments.
     ghost moment_a: { Self → ℕ };
+
     ghost images_a: { Self → ℕ → List ℕ → Type 0 };
+
     ghost moment_b: { Self → ℕ };
+
     ghost images_b: { Self → ℕ → List ℕ → Type 0 };
 
     /// Makes one turn for a seat. It takes one moment and one word, whatever it answers. After `Said` the turn's
