@@ -53,5 +53,12 @@ piece_written number place file front bytes before after written begins made =
       whole = whole;
       leads = rw moves_more on;
       next = omega (arith, written.next, number_more contents moves);
-      behind = omega (arith, opened_long number bytes, ap length whole, length-append front (opened number bytes), ap length written.whole, written.behind);
+      behind = omega (
+        arith,
+        opened_long number bytes,
+        ap length whole,
+        length-append front (opened number bytes),
+        ap length written.whole,
+        written.behind,
+      );
     }

@@ -86,7 +86,8 @@ come_next told file bytes kept made before after is come says moves =
       free = says.free come.free;
       front = λ tells.
           (said.5 tells).1
-          ∙ front_on before.live.number before.live.place file before.live.front bytes (come.front tells) (said.5 tells).0
+          ∙ front_on before.live.number before.live.place file before.live.front bytes (come.front tells)
+          (said.5 tells).0
           ∙ ap (λ n. take n file) (sym said.2);
       well = leads_well kept made moves.moves come.well moves.leads moves.list;
       first = λ n some. absurd (none_some after.snapshot n said.0 some);

@@ -36,7 +36,8 @@ returns-in-Ok-replay_all-clause-stands g c = λ told_a told_b.
     let tells = subst IsTrue (sym (c.replay_all.ensures.reads.tells ∙ c.in-Ok-open.ensures.told.0)) told_a in
     let told = told_whole _ _ _ _ _ c.replay_all.new.shelf tells c.in-Ok-replay_all.ensures.come
     c.in-Ok-replay_all.ensures.behind (c.in-Ok-replay_all.ensures.end tells) opened.0
-    (subst (λ (file : List ℕ). IsOpened (g.D.Disk.content c.args.a) file) (sym c.replay_all.ensures.reads.same) opened.2) in
+    (subst (λ (file : List ℕ). IsOpened (g.D.Disk.content c.args.a) file) (sym c.replay_all.ensures.reads.same)
+    opened.2) in
     (told.stands, told.numbers)
 
 pub returns-in-Ok-replay_all-clause-sound : goal.returns-in-Ok-replay_all-clause-sound
