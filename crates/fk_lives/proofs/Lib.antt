@@ -19,5 +19,7 @@ mod Runs
 mod LivePushes
 mod LiveTickets
 mod BroughtRows
-mod Doubts
-mod AfterCrash
+pub mod Doubts
+pub mod AfterCrash
+pub mod Moments
+pub mod Roads

@@ -73,7 +73,7 @@ GoesOnFrom kept (run ∷ runs) =
     (run.start.state ≡ without_workers kept) × IsLegalOnDisk run.start 0 run.entries
     × MayBeAdded run run.added × GoesOnFrom (kept_behind run) runs
 
--- the first run is on blank files
+-- the first run begins as one on blank files
 abbrev pub BeginsNew : List Run → Type 0
 BeginsNew [] = Unit {0}
 BeginsNew (run ∷ runs) = run.start ≡ new_server

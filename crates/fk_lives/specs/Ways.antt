@@ -1,5 +1,6 @@
 -- The way of two disks from one pair of moments to another, one disk at a time, and what holds on it of each pair of
--- images that a crash may leave. It isn't each image of the one with each image of the other: only those of one time.
+-- images that a crash may leave. It isn't each image of the one with each image of the other: only those of one order in
+-- which the disks may have gone on. Which it was isn't told.
 use Rattle.std.specs.Prelude.{◌≡◌, ◌↔◌, ℕ, suc, ◌≤◌, List, [], ◌∷◌}
 use Rattle.fk_journal.specs.declared.fault.File.{File}
 use Rattle.fk_journal.specs.declared.fault.File.TheVariants.{A, B}

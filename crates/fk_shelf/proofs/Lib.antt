@@ -1,4 +1,4 @@
-pub mod Roads
+pub mod Calls
 mod Numbers
 mod NewFile
 mod Found

@@ -13,9 +13,10 @@ use Rattle.fk_lives.specs.Standing.{LeadsTo, Stands, Tell}
 use Rattle.fk_lives.specs.Ways.{Disks, disks, GoOn}
 use Rattle.fk_lives.proofs.Fronts.{new_are, new_is, new_stands, not_blank}
 use Rattle.fk_lives.proofs.Headers.{has_header, header_is_whole, one_header, snapshot_within}
+use Rattle.fk_lives.proofs.Roads.{goes_end, goes_then}
 use Rattle.fk_shelf.specs.Opening.{IsBlankOrNew, IsFoundDamagedAt, IsOpened, IsOpeningDamage, IsSnapshotCut, MayBecome, StandOn, StandsForOne}
 use Rattle.fk_shelf.proofs.NewFile.{on_ok}
-use Rattle.fk_shelf.proofs.Roads.{a_calls, a_passes, b_calls, goes_end, goes_then}
+use Rattle.fk_shelf.proofs.Calls.{a_calls, a_passes, b_calls}
 
 -- ---- one file
 

@@ -17,8 +17,8 @@ use Rattle.fk_moves.specs.Spelling.{moves_bytes}
 use Rattle.fk_lives.specs.Causes.{HasDiskCause}
 use Rattle.fk_lives.specs.Doubt.{IsDoubtAfter, StandsWithDoubt}
 use Rattle.fk_lives.specs.OnDisk.{HasRisen}
+use Rattle.fk_lives.proofs.Roads.{goes_nowhere}
 use Rattle.fk_shelf.specs.ShelfState.{ShelfState}
-use Rattle.fk_shelf.proofs.Roads.{goes_nowhere}
 use Rattle.fk_desk.specs.Keeping.{TurnGoesOn}
 use Rattle.fk_store.specs.StoreState.{MayFollow}
 use Rattle.fk_store.specs.Turning.{AreCarriedOut, AreOver, AreSound, EndBeyond, IsRightTo, TellsKept, disks_of, faults_of, made_by, number_behind, place_behind}

@@ -22,10 +22,11 @@ use Rattle.fk_lives.specs.Ways.{Disks, GoOn, disks}
 use Rattle.fk_lives.proofs.Fronts.{file_of, new_is, new_stands, not_blank, stands_file}
 use Rattle.fk_lives.proofs.OneDamage.{sound}
 use Rattle.fk_lives.proofs.OneState.{one_number, one_size, one_state}
+use Rattle.fk_lives.proofs.Roads.{goes_end, goes_then}
 use Rattle.fk_lives.proofs.WellKept.{untold_within}
 use Rattle.fk_shelf.specs.Opening.{Begins, IsOpened, IsOpeningDamage, IsReady, IsSnapshotCut, KeepFiles}
 use Rattle.fk_shelf.specs.ShelfState.{ShelfState}
-use Rattle.fk_shelf.proofs.Roads.{a_reads, goes_end, goes_then}
+use Rattle.fk_shelf.proofs.Calls.{a_reads}
 use Rattle.fk_store.specs.StoreState.{IsOwedFor, IsWritten}
 use Rattle.fk_store.specs.Replaying.{HasCome, IsDamageOf}
 

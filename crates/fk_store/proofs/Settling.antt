@@ -13,7 +13,7 @@ use Rattle.fk_lives.specs.Files.{IsBlank}
 use Rattle.fk_lives.specs.Doubt.{StandsWithDoubt}
 use Rattle.fk_lives.specs.Ways.{disks, GoOn}
 use Rattle.fk_shelf.specs.ShelfState.{ShelfState}
-use Rattle.fk_shelf.proofs.Roads.{a_passes}
+use Rattle.fk_shelf.proofs.Calls.{a_passes}
 use Rattle.fk_desk.specs.Keeping.{StandsWithOrWithout}
 use Rattle.fk_store.specs.StoreState.{IsOwedFor, IsWritten, MayFollow}
 use Rattle.fk_store.specs.Turning.{AreSound, TellsKept, disks_of}

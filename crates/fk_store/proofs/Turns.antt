@@ -19,8 +19,8 @@ use Rattle.fk_model.proofs.Turning.{turn_comes, turn_ends}
 use Rattle.fk_plan.specs.Plans.{left_of}
 use Rattle.fk_lives.specs.Doubt.{StandsWithDoubt}
 use Rattle.fk_lives.specs.OnDisk.{IsAckOrBeat, IsToldOnDisk}
+use Rattle.fk_lives.proofs.Roads.{goes_nowhere}
 use Rattle.fk_shelf.specs.ShelfState.{ShelfState}
-use Rattle.fk_shelf.proofs.Roads.{goes_nowhere}
 use Rattle.fk_store.specs.RoomForTurns.{IsOneDrop}
 use Rattle.fk_store.specs.Turning.{AreCarriedOut, AreSound, EndBeyond, IsTurn, TellsKept, disks_of, faults_of, told_of, workers_behind}
 use Rattle.fk_store.proofs.Deciding.{AreOfTurn, limit_told, makes_step, right_answer, starves, still_between}

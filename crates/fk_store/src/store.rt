@@ -65,3 +65,12 @@ impl<D: Disk, C: Clock, J: Dice> Model for Store<D, C, J> {
         × (34 ≤ length store.room.spelled.items + store.room.spelled.spare)
         × (51 ≤ length store.room.piece.items + store.room.piece.spare) };
 }
+
+impl<D: Disk, C: Clock, J: Dice> Store<D, C, J> {
+    /// What is kept, to be looked at.
+    pub fn tables(&self) -> &Tables
+        ensures { result.now.kept ≡ self.now.server.state.kept }
+    {
+        &self.tables
+    }
+}

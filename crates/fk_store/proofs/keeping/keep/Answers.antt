@@ -1,5 +1,5 @@
 use Rattle.std.proofs.Common.{inr}
-use Rattle.fk_shelf.proofs.Roads.{stages}
+use Rattle.fk_lives.proofs.Roads.{stages}
 use Rattle.fk_store.proofs.keeping.keep.Goals as goal
 
 pub returns-clause-crash : goal.returns-clause-crash

@@ -1,6 +1,6 @@
 use Rattle.std.proofs.Common.{◌∙◌, ap, arith, subst, sym, Err, IsTrue, List, ℕ}
+use Rattle.fk_lives.proofs.Roads.{goes_nowhere}
 use Rattle.fk_shelf.specs.Opening.{IsOpened}
-use Rattle.fk_shelf.proofs.Roads.{goes_nowhere}
 use Rattle.fk_store.proofs.Ends.{begun, between_turns, first_damage, goes_reading, none_owed, opening_damage, owed_for_none, sound_whole, told_whole}
 use Rattle.fk_store.proofs.store.Store.open.Goals as goal
 
