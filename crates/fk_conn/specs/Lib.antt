@@ -1,0 +1,4 @@
+pub mod Turning
+pub mod Crashing
+pub mod Session
+pub mod Answering
