@@ -1,17 +1,11 @@
-pub mod Turning
-pub mod Leaving
-pub mod Writing
-pub mod Giving
-pub mod Gives
-pub mod Wanted
-pub mod Cut
-pub mod Breaks
-pub mod Ends
-pub mod Hearing
-pub mod Starving
-pub mod Replying
-pub mod Counts
-pub mod Found
-pub mod Options
-pub mod Parsed
-pub mod Valid
+mod Found
+mod Counts
+mod Options
+mod Parsed
+mod Valid
+mod Refusals
+mod InDoubt
+mod Lasting
+mod Living
+mod Completing
+mod Running

@@ -1,6 +1,4 @@
 pub mod Words
-pub mod Turning
-pub mod Stored
-pub mod Session
-pub mod Answering
+pub mod Outside
+pub mod Serving
 pub mod Piped

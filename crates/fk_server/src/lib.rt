@@ -1,14 +1,11 @@
 //! The top calls of the job server.
 #![tactic(auto)]
 
-mod lines;
-mod memory_store;
+mod finished;
 mod piped;
-mod send;
-mod session;
-mod turn;
+mod serving;
 mod words;
 
-pub use memory_store::MemoryStore;
+pub use finished::Finished;
 pub use piped::pipe;
 pub use words::{CommandWord, Settings, WordsFault, read_words};
