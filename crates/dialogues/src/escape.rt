@@ -1,5 +1,5 @@
 // The bytes that a text of a script says.
-use crate::fault::ScriptFault;
+use fk_cases::ScriptFault;
 use fk_json::Text;
 use std::alloc::Global;
 

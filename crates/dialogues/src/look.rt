@@ -1,22 +1,35 @@
 // What is looked up behind a run.
 use crate::escape::unescaped;
-use crate::fault::ScriptFault;
-use crate::numbers::number;
+use crate::opened::opened;
 use crate::serving::Outcome;
 use crate::shown::push_shown;
 use crate::steps::move_of;
+use fk_cases::{ScriptFault, file_of, number, push_digits};
 use fk_core::Tables;
+use fk_journal::File;
 use fk_json::Text;
 use fk_lists::Sizes;
 use fk_model::{Move, Place, Row, Target};
 use std::alloc::{AllocError, Global};
 use std::fmt::{Display, Write};
 
+/// How many bytes of a file stand on a line.
+const WIDTH: usize = 32;
+
 /// A look-up.
 #[derive(Drop)]
 pub enum Look {
     /// The bytes that stayed unread.
     Unread,
+    /// The bytes of a file.
+    Bytes(File),
+    /// What the files stand for.
+    Kept(KeptLook),
+}
+
+/// A look-up in what is kept.
+#[derive(Drop)]
+pub enum KeptLook {
     /// The ticket of a queue's first row.
     First(Text),
     /// The least ticket of a jid among the rows that workers have.
@@ -41,16 +54,24 @@ pub fn look_of(alloc: Global, text: &str) -> Result<Look, ScriptFault> {
     let (word, rest) = text.split_once(' ').unwrap_or((text, ""));
     match word {
         "unread" => Ok(Look::Unread),
-        "first" => Ok(Look::First(unescaped(alloc, rest)?)),
-        "leased" => Ok(Look::Leased(unescaped(alloc, rest)?)),
-        "sizes" => Ok(Look::Sizes),
-        "working" => Ok(Look::Working),
-        "size" => Ok(Look::Size(target_of(rest)?)),
-        "next" => Ok(Look::Next),
-        "processed" => Ok(Look::Processed),
-        "failures" => Ok(Look::Failures),
-        "ticket" => Ok(Look::Row(number(rest)?)),
-        "fits" => Ok(Look::Fits(move_of(alloc, rest)?)),
+        "bytes" => Ok(Look::Bytes(file_of(rest)?)),
+        _ => Ok(Look::Kept(kept_look_of(alloc, word, rest)?)),
+    }
+}
+
+/// The look-up in what is kept that a word and what stands behind it say.
+fn kept_look_of(alloc: Global, word: &str, rest: &str) -> Result<KeptLook, ScriptFault> {
+    match word {
+        "first" => Ok(KeptLook::First(unescaped(alloc, rest)?)),
+        "leased" => Ok(KeptLook::Leased(unescaped(alloc, rest)?)),
+        "sizes" => Ok(KeptLook::Sizes),
+        "working" => Ok(KeptLook::Working),
+        "size" => Ok(KeptLook::Size(target_of(rest)?)),
+        "next" => Ok(KeptLook::Next),
+        "processed" => Ok(KeptLook::Processed),
+        "failures" => Ok(KeptLook::Failures),
+        "ticket" => Ok(KeptLook::Row(number(rest)?)),
+        "fits" => Ok(KeptLook::Fits(move_of(alloc, rest)?)),
         _ => Err(ScriptFault::NoLook),
     }
 }
@@ -65,28 +86,66 @@ fn target_of(word: &str) -> Result<Target, ScriptFault> {
     }
 }
 
-/// Adds what a look-up finds.
+/// Adds what a look-up finds behind a connection.
 pub fn push_found(
+    alloc: Global,
     into: &mut String,
     look: &Look,
-    tables: &Tables,
     outcome: &Outcome,
-) -> Result<(), AllocError> {
+) -> Result<(), ScriptFault> {
     match look {
-        Look::Unread => push_shown(into, &outcome.unread),
-        Look::First(queue) => push_ticket(into, tables.first_queued(queue)),
-        Look::Leased(jid) => push_ticket(into, tables.leased(jid)),
-        Look::Sizes => push_sizes(into, &tables.sizes()?),
-        Look::Working => push_number(into, tables.working()),
-        Look::Size(target) => push_number(into, tables.size(*target)),
-        Look::Next => push_number(into, tables.next()),
-        Look::Processed => push_number(into, tables.processed()),
-        Look::Failures => push_number(into, tables.failures()),
-        Look::Row(ticket) => match tables.row(*ticket) {
+        Look::Unread => {
+            into.push_str(" ")?;
+            push_shown(into, &outcome.unread)?;
+        }
+        Look::Bytes(file) => push_bytes(into, outcome.left.bytes(*file)?.bytes())?,
+        Look::Kept(look) => {
+            into.push_str(" ")?;
+            push_kept(alloc, into, look, outcome)?;
+        }
+    }
+    Ok(())
+}
+
+/// Adds bytes of a file, each line of them behind a line feed.
+fn push_bytes(into: &mut String, bytes: &[u8]) -> Result<(), AllocError> {
+    for line in bytes.chunks(WIDTH) {
+        into.push_str("\n  ")?;
+        push_digits(into, line)?;
+    }
+    Ok(())
+}
+
+/// Adds what is found in the tables for which the files stand that a connection left, or that there are none.
+fn push_kept(
+    alloc: Global,
+    into: &mut String,
+    look: &KeptLook,
+    outcome: &Outcome,
+) -> Result<(), ScriptFault> {
+    let files = outcome.left.files(alloc)?;
+    match opened(alloc, &files.a, &files.b)? {
+        Some(store) => Ok(push_found_in(into, look, store.tables())?),
+        None => Ok(into.push_str("none")?),
+    }
+}
+
+/// Adds what is found in tables.
+fn push_found_in(into: &mut String, look: &KeptLook, tables: &Tables) -> Result<(), AllocError> {
+    match look {
+        KeptLook::First(queue) => push_ticket(into, tables.first_queued(queue)),
+        KeptLook::Leased(jid) => push_ticket(into, tables.leased(jid)),
+        KeptLook::Sizes => push_sizes(into, &tables.sizes()?),
+        KeptLook::Working => push_number(into, tables.working()),
+        KeptLook::Size(target) => push_number(into, tables.size(*target)),
+        KeptLook::Next => push_number(into, tables.next()),
+        KeptLook::Processed => push_number(into, tables.processed()),
+        KeptLook::Failures => push_number(into, tables.failures()),
+        KeptLook::Row(ticket) => match tables.row(*ticket) {
             Some(row) => push_row(into, row),
             None => into.push_str("none"),
         },
-        Look::Fits(step) => into.push_str(if tables.fits(step) { "yes" } else { "no" }),
+        KeptLook::Fits(step) => into.push_str(if tables.fits(step) { "yes" } else { "no" }),
     }
 }
 

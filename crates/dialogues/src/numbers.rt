@@ -1,26 +1,9 @@
 // Numbers of a script.
-use crate::fault::ScriptFault;
+use fk_cases::ScriptFault;
 use std::alloc::Global;
 
 /// The most times that a line may repeat something.
 const TIMES_MAX: usize = 16_777_216;
-
-/// The number that a text says.
-pub fn number(text: &str) -> Result<u64, ScriptFault> {
-    match text.parse() {
-        Ok(number) => Ok(number),
-        Err(_) => Err(ScriptFault::NoNumber),
-    }
-}
-
-/// The numbers that a text says, with spaces between them.
-pub fn numbers(alloc: Global, text: &str) -> Result<Vec<u64>, ScriptFault> {
-    let mut numbers = Vec::new(alloc);
-    for word in text.split_ascii_whitespace() {
-        numbers.push(number(word)?)?;
-    }
-    Ok(numbers)
-}
 
 /// How often something is repeated.
 pub fn times(text: &str) -> Result<usize, ScriptFault> {

@@ -1,7 +1,9 @@
 use crate::escape::push_unescaped;
-use crate::fault::ScriptFault;
+use crate::files::Files;
 use crate::look::{Look, look_of};
-use crate::numbers::{lengths, numbers, times};
+use crate::numbers::{lengths, times};
+use crate::steps::move_of;
+use fk_cases::{Failing, ScriptFault, file_of, numbers};
 use std::alloc::{AllocError, Global};
 
 /// The moment that a clock tells unless a run says others: 2023-11-14T22:13:20Z.
@@ -17,6 +19,10 @@ pub struct Asked<'a> {
 /// One connection, and what is looked up behind it.
 #[derive(Drop)]
 pub struct Run<'a> {
+    /// What it is served on.
+    pub files: Files,
+    /// The calls of the disks that fail.
+    pub failing: Failing,
     /// The words of the command line.
     pub words: Vec<&'a str>,
     /// What the clock tells, in milliseconds since 1970-01-01T00:00:00Z.
@@ -37,9 +43,11 @@ pub struct Run<'a> {
 }
 
 impl<'a> Run<'a> {
-    /// A connection on which nothing is sent.
-    pub fn new(alloc: Global) -> Result<Run<'a>, AllocError> {
+    /// A connection on which nothing is sent, over these files.
+    pub fn over(alloc: Global, files: Files) -> Result<Run<'a>, AllocError> {
         Ok(Run {
+            files,
+            failing: Failing::none(alloc),
             words: vec![in alloc; "pipe"]?,
             moments: vec![in alloc; MOMENT]?,
             dice: vec![in alloc; 0]?,
@@ -77,6 +85,25 @@ impl<'a> Run<'a> {
                 text: rest,
                 look: look_of(alloc, rest)?,
             })?,
+            "move" => self.files.make(alloc, move_of(alloc, rest)?)?,
+            _ => self.take_file_line(alloc, directive, rest)?,
+        }
+        Ok(())
+    }
+
+    /// Takes a line on a file, whose name is the second word.
+    fn take_file_line(
+        &mut self,
+        alloc: Global,
+        directive: &str,
+        rest: &str,
+    ) -> Result<(), ScriptFault> {
+        let (word, rest) = rest.split_once(' ').unwrap_or((rest, ""));
+        match directive {
+            "failing-disk" => self.failing.set(file_of(word)?, numbers(alloc, rest)?),
+            "file" | "cut" | "zero" | "byte" => {
+                self.files.edit(alloc, file_of(word)?, directive, rest)?;
+            }
             _ => return Err(ScriptFault::NoDirective),
         }
         Ok(())

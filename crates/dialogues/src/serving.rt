@@ -1,37 +1,28 @@
-// One connection, served in memory.
-ghost use Rattle.std.specs.Prelude.{◌≢◌, [], IfOk};
-
-use crate::fault::ScriptFault;
+// One connection, served over two disks in memory.
+use crate::left::Left;
 use crate::narrow_sink::NarrowSink;
 use crate::run::Run;
-use crate::steps::is_ready;
-use fk_core::Tables;
-use fk_io::{ByteSink, ByteSource, Failed, ListClock, ListDice, Source};
-use fk_server::{MemoryStore, pipe};
-use fk_time::GREATEST;
-use fk_workers::Workers;
+use fk_cases::{ScriptFault, clock_of, dice_of};
+use fk_disk::MemoryDisk;
+use fk_io::{ByteSink, ByteSource, Failed, Source};
+use fk_journal::Damage;
+use fk_server::{Finished, pipe};
 use std::alloc::{AllocError, Global};
-use std::mem::replace;
 
 /// What a connection left.
 #[derive(Drop)]
 pub struct Outcome {
     pub status: u8,
+    /// The damage for which its files weren't opened.
+    pub damage: Option<Damage>,
     pub written: Vec<u8>,
     /// The bytes that stayed unread.
     pub unread: Vec<u8>,
+    pub left: Left,
 }
 
-/// Serves a connection over tables and workers.
-pub fn serve(
-    alloc: Global,
-    run: &Run,
-    tables: &mut Tables,
-    workers: &mut Workers,
-) -> Result<Outcome, ScriptFault> {
-    if !is_ready(tables) {
-        return Err(ScriptFault::NextTooLow);
-    }
+/// Serves a connection over its files.
+pub fn serve(alloc: Global, run: &Run) -> Result<Outcome, ScriptFault> {
     let clock = clock_of(alloc, &run.moments)?;
     let dice = dice_of(alloc, &run.dice)?;
     let mut input = ByteSource::new(alloc, &run.input, &run.cuts, &run.failing_reads)?;
@@ -39,41 +30,45 @@ pub fn serve(
         to: ByteSink::new(alloc, &run.failing_writes)?,
         width: run.width,
     };
-    let mut store = MemoryStore::over(
+    let a = MemoryDisk::new(alloc, &run.files.a, &run.failing.a)?;
+    let b = MemoryDisk::new(alloc, &run.files.b, &run.failing.b)?;
+    let finished = pipe(
         alloc,
-        replace(tables, Tables::empty(alloc)),
-        replace(workers, Workers::new(alloc)),
+        &run.words,
+        &mut input,
+        &mut output,
+        a,
+        b,
         clock,
         dice,
     );
-    let status = pipe(alloc, &run.words, &mut input, &mut output, &mut store);
-    let (kept, listed) = store.into_parts();
-    *tables = kept;
-    *workers = listed;
+    let written = Vec::from_slice(alloc, output.to.bytes())?;
+    outcome_of(finished, written, unread(alloc, &mut input)?)
+}
+
+/// What a connection left, where no disk was short of memory.
+fn outcome_of(
+    finished: Finished<MemoryDisk>,
+    written: Vec<u8>,
+    unread: Vec<u8>,
+) -> Result<Outcome, ScriptFault> {
+    let Finished {
+        status,
+        damage,
+        a,
+        b,
+    } = finished;
+    let left = Left { a, b };
+    if left.is_starved() {
+        return Err(ScriptFault::NoMemory);
+    }
     Ok(Outcome {
         status,
-        written: Vec::from_slice(alloc, output.to.bytes())?,
-        unread: unread(alloc, &mut input)?,
+        damage,
+        written,
+        unread,
+        left,
     })
-}
-
-/// A clock that tells these moments.
-fn clock_of(alloc: Global, moments: &[u64]) -> Result<ListClock, ScriptFault> {
-    if moments.is_empty() {
-        return Err(ScriptFault::NothingTold);
-    }
-    if !moments.iter().all(|moment| *moment < GREATEST) {
-        return Err(ScriptFault::NoNumber);
-    }
-    Ok(ListClock::new(alloc, moments)?)
-}
-
-/// Dice that tell these words.
-fn dice_of(alloc: Global, words: &[u64]) -> Result<ListDice, ScriptFault> {
-    if words.is_empty() {
-        return Err(ScriptFault::NothingTold);
-    }
-    Ok(ListDice::new(alloc, words)?)
 }
 
 /// What a source still has.

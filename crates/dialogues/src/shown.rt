@@ -1,4 +1,5 @@
 // Bytes as a transcript shows them.
+use fk_cases::push_escaped;
 use std::alloc::AllocError;
 use std::fmt::Write;
 
@@ -37,40 +38,9 @@ fn push_equal(into: &mut String, equal: &[u8]) -> Result<(), AllocError> {
     match equal.first() {
         Some(byte) if count >= MANY => {
             into.push_str("{")?;
-            push_byte(into, *byte)?;
+            push_escaped(into, &[*byte])?;
             write!(into, "*{count}}}")
         }
-        _ => push_each(into, equal),
+        _ => push_escaped(into, equal),
     }
-}
-
-/// Adds each of some bytes.
-fn push_each(into: &mut String, bytes: &[u8]) -> Result<(), AllocError> {
-    for byte in bytes {
-        push_byte(into, *byte)?;
-    }
-    Ok(())
-}
-
-/// Adds one byte.
-fn push_byte(into: &mut String, byte: u8) -> Result<(), AllocError> {
-    match byte {
-        b'\r' => into.push_str("\\r"),
-        b'\n' => into.push_str("\\n"),
-        b'\\' => into.push_str("\\\\"),
-        b' '..=b'~' => into.push(char::from(byte)),
-        _ => push_escape(into, byte),
-    }
-}
-
-/// Adds the escape of a byte by its number.
-fn push_escape(into: &mut String, byte: u8) -> Result<(), AllocError> {
-    into.push_str("\\x")?;
-    into.push(digit_of(byte / 16))?;
-    into.push(digit_of(byte % 16))
-}
-
-/// The hexadecimal digit of a value, or of its last one.
-fn digit_of(value: u8) -> char {
-    char::from(b"0123456789abcdef"[usize::from(value % 16)])
 }

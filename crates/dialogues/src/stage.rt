@@ -1,22 +1,21 @@
-use crate::fault::{ScriptFault, Stop};
+use crate::files::Files;
+use crate::left::Left;
 use crate::look::push_found;
 use crate::run::Run;
-use crate::serving::serve;
+use crate::serving::{Outcome, serve};
 use crate::shown::push_written;
-use crate::steps::{make, move_of};
-use fk_core::Tables;
-use fk_workers::Workers;
-use std::alloc::Global;
+use fk_cases::{ScriptFault, Stop, choice_of};
+use fk_journal::{Damage, File};
+use std::alloc::{AllocError, Global};
 use std::fmt::Write;
 
-/// Where a script is played: the tables and the workers of its server, the run that is being read,
-/// and what came of those before it.
+/// Where a script is played: the run that is being read, what the one before it left of its files, and what came of all
+/// before.
 #[derive(Drop)]
 pub struct Stage<'a> {
     alloc: Global,
-    tables: Tables,
-    workers: Workers,
     run: Option<Run<'a>>,
+    left: Option<Left>,
     transcript: String,
 }
 
@@ -25,9 +24,8 @@ impl<'a> Stage<'a> {
     pub fn new(alloc: Global) -> Stage<'a> {
         Stage {
             alloc,
-            tables: Tables::empty(alloc),
-            workers: Workers::new(alloc),
             run: None,
+            left: None,
             transcript: String::new(alloc),
         }
     }
@@ -64,52 +62,86 @@ impl<'a> Stage<'a> {
         match directive {
             "run" => {
                 self.finish()?;
-                self.tables = Tables::empty(self.alloc);
-                self.workers = Workers::new(self.alloc);
-                self.begin(line)
+                let files = Files::over(self.alloc, &[], &[])?;
+                self.begin(line, files)
             }
             "then" => {
                 self.finish()?;
-                self.workers = Workers::new(self.alloc);
-                self.begin(line)
+                let files = self.files_left()?;
+                self.begin(line, files)
             }
-            "also" => {
+            "after" => {
                 self.finish()?;
-                self.begin(line)
+                let files = self.files_after(rest)?;
+                self.begin(line, files)
             }
-            "move" => make(self.alloc, &mut self.tables, move_of(self.alloc, rest)?),
             _ => match &mut self.run {
                 Some(run) => run.take_line(self.alloc, directive, rest),
-                None => Err(ScriptFault::NoRun),
+                None => Err(ScriptFault::NoCase),
             },
         }
     }
 
-    /// Begins a run, whose name is in this line.
-    fn begin(&mut self, line: &str) -> Result<(), ScriptFault> {
+    /// The files that the run before left.
+    fn files_left(&self) -> Result<Files, ScriptFault> {
+        let left = self.left.as_ref().ok_or(ScriptFault::NoImage)?;
+        left.files(self.alloc)
+    }
+
+    /// The files that a crash may have left of the run before, by the choices of the first two words.
+    fn files_after(&self, rest: &str) -> Result<Files, ScriptFault> {
+        let (a, rest) = rest.split_once(' ').ok_or(ScriptFault::NoImage)?;
+        let (b, _) = rest.split_once(' ').unwrap_or((rest, ""));
+        let left = self.left.as_ref().ok_or(ScriptFault::NoImage)?;
+        left.images(self.alloc, choice_of(a)?, choice_of(b)?)
+    }
+
+    /// Begins a run over these files, whose name is in this line.
+    fn begin(&mut self, line: &str, files: Files) -> Result<(), ScriptFault> {
         if !self.transcript.is_empty() {
             self.transcript.push_str("\n")?;
         }
         writeln!(self.transcript, "{line}")?;
-        self.run = Some(Run::new(self.alloc)?);
+        self.run = Some(Run::over(self.alloc, files)?);
         Ok(())
     }
 
     /// Serves the run that was read, if there is one, and writes down what came of it.
     fn finish(&mut self) -> Result<(), ScriptFault> {
-        let Some(run) = self.run.take() else {
+        let Some(mut run) = self.run.take() else {
             return Ok(());
         };
-        let outcome = serve(self.alloc, &run, &mut self.tables, &mut self.workers)?;
+        run.files.end_piece(self.alloc)?;
+        let outcome = serve(self.alloc, &run)?;
         push_written(&mut self.transcript, &outcome.written)?;
-        let status = outcome.status;
-        writeln!(self.transcript, "status {status}")?;
+        push_status(&mut self.transcript, &outcome)?;
         for asked in &run.looks {
             let text = asked.text;
-            write!(self.transcript, "{text}: ")?;
-            push_found(&mut self.transcript, &asked.look, &self.tables, &outcome)?;
+            write!(self.transcript, "{text}:")?;
+            push_found(self.alloc, &mut self.transcript, &asked.look, &outcome)?;
             self.transcript.push_str("\n")?;
         }
+        self.left = Some(outcome.left);
         Ok(())
     }
+}
+
+/// Adds the status of a connection, and the damage of its files where there is one.
+fn push_status(into: &mut String, outcome: &Outcome) -> Result<(), AllocError> {
+    let status = outcome.status;
+    write!(into, "status {status}")?;
+    if let Some(damage) = outcome.damage {
+        push_damage(into, damage)?;
+    }
+    into.push_str("\n")
+}
+
+/// Adds where a file is damaged.
+fn push_damage(into: &mut String, damage: Damage) -> Result<(), AllocError> {
+    let name = match damage.file {
+        File::A => "A",
+        File::B => "B",
+    };
+    let at = damage.at;
+    write!(into, ", damaged {name} at {at}")
 }

@@ -1,14 +1,10 @@
 // Moves of a script.
-ghost use Rattle.std.specs.Prelude.{IsTrue};
-ghost use Rattle.fk_model.specs.Between.{IsAboveAll};
 
 use crate::escape::unescaped;
-use crate::fault::ScriptFault;
-use crate::numbers::number;
-use fk_core::Tables;
+use fk_cases::{ScriptFault, number};
 use fk_job::{Job, Stamp};
 use fk_json::Text;
-use fk_model::{Move, Moves, Place, Row};
+use fk_model::{Move, Place, Row};
 use std::alloc::Global;
 
 /// The move that a text says: `add TICKET JID QUEUE PLACE`, `put TICKET PLACE`, `drop TICKET`,
@@ -88,30 +84,5 @@ fn row_of(alloc: Global, jid: &str, queue: &str, place: Place) -> Result<Row, Sc
             failure: None,
         },
         place,
-    })
-}
-
-/// Makes a move, if it fits.
-#[tactic(auto, unfolding(fk_model::specs::Changes::FitInTurn))]
-pub fn make(alloc: Global, tables: &mut Tables, step: Move) -> Result<(), ScriptFault> {
-    if !tables.fits(&step) {
-        return Err(ScriptFault::MoveDoesNotFit);
-    }
-    let mut moves = Moves::new(alloc);
-    moves.push(step)?;
-    tables.reserve(&moves)?;
-    tables.apply(&mut moves);
-    Ok(())
-}
-
-/// Whether a connection may be served: the next number is above all tickets and ranks.
-#[tactic(auto, using(crate::proofs::Ready::above_all))]
-pub fn is_ready(tables: &Tables) -> bool
-    ensures { IsTrue result → IsAboveAll tables.now.kept.next tables.now.kept.rows }
-{
-    tables.fits(&Move::Totals {
-        next: tables.next(),
-        processed: tables.processed(),
-        failures: tables.failures(),
     })
 }

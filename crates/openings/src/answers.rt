@@ -1,6 +1,5 @@
 // Answers as a transcript shows them.
-use crate::fault::ScriptFault;
-use crate::shown::push_shown;
+use fk_cases::{ScriptFault, push_escaped};
 use fk_frame::Reply;
 use fk_journal::{Damage, File, OpenFault};
 use fk_json::Text;
@@ -42,7 +41,7 @@ pub fn push_answers(into: &mut String, answers: &[Answer]) -> Result<(), ScriptF
         into.push_str("\n")?;
         if let Answer::Said(Reply::Bulk(text)) = answer {
             into.push_str("< ")?;
-            push_shown(into, text.bytes())?;
+            push_escaped(into, text.bytes())?;
             into.push_str("\n")?;
         }
     }
@@ -73,7 +72,7 @@ fn push_reply(into: &mut String, reply: &Reply) -> Result<(), AllocError> {
 
 fn push_line(into: &mut String, sign: &str, text: &Text) -> Result<(), AllocError> {
     into.push_str(sign)?;
-    push_shown(into, text.bytes())
+    push_escaped(into, text.bytes())
 }
 
 /// Adds what a turn told of itself.

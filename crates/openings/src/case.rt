@@ -1,9 +1,6 @@
-use crate::edits::edit;
-use crate::failing::Failing;
-use crate::fault::ScriptFault;
 use crate::look::{Asked, look_of};
-use crate::numbers::{file_of, numbers};
 use crate::step::Step;
+use fk_cases::{Failing, ScriptFault, edit, file_of, numbers};
 use fk_journal::File;
 use std::alloc::{AllocError, Global};
 

@@ -1,11 +1,10 @@
 // Each call of a disk that may fail.
 use crate::answers::{push_answer, push_opening};
 use crate::case::Case;
-use crate::failing::Failing;
-use crate::fault::ScriptFault;
 use crate::images::push_images;
 use crate::played::{CALLS_MAX, Played, play};
 use crate::rows::Rows;
+use fk_cases::{Failing, ScriptFault};
 use fk_journal::File;
 use fk_model::Answer;
 use std::alloc::Global;

@@ -1,22 +1,12 @@
 // What a crash may leave.
-use crate::fault::ScriptFault;
 use crate::played::Played;
 use crate::rows::Rows;
 use crate::standing::standing;
+use fk_cases::ScriptFault;
 use fk_disk::Choice;
 use std::alloc::Global;
 
 const CHOICES: [Choice; 3] = [Choice::Old, Choice::New, Choice::Torn];
-
-/// The image that a word names.
-pub fn choice_of(word: &str) -> Result<Choice, ScriptFault> {
-    match word {
-        "old" => Ok(Choice::Old),
-        "new" => Ok(Choice::New),
-        "torn" => Ok(Choice::Torn),
-        _ => Err(ScriptFault::NoImage),
-    }
-}
 
 /// Adds what each pair of images stands for, one of the disk of file A with each of file B.
 pub fn push_images(alloc: Global, into: &mut Rows, played: &Played) -> Result<(), ScriptFault> {

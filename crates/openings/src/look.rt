@@ -1,15 +1,12 @@
 // What is looked at behind a case.
 use crate::answers::push_told;
 use crate::case::Case;
-use crate::digits::push_digits;
-use crate::edits::set;
-use crate::fault::ScriptFault;
 use crate::faults::push_faults;
 use crate::images::push_images;
-use crate::numbers::file_of;
 use crate::played::Played;
 use crate::rows::Rows;
 use crate::standing::standing;
+use fk_cases::{ScriptFault, file_of, push_digits, set};
 use fk_disk::Choice;
 use fk_journal::File;
 use std::alloc::{AllocError, Global};

@@ -1,16 +1,14 @@
 // A case that is played.
 use crate::case::Case;
-use crate::failing::{Failing, behind};
-use crate::fault::ScriptFault;
 use crate::step::{Step, ask_of};
+use fk_cases::{Failing, ScriptFault, clock_of, dice_of};
 use fk_desk::Kept;
 use fk_disk::{Disk, MemoryDisk};
 use fk_io::{ListClock, ListDice};
 use fk_journal::{File, OpenFault};
 use fk_model::{Answer, Compaction, Told};
 use fk_store::{OpenRefused, Store};
-use fk_time::GREATEST;
-use std::alloc::Global;
+use std::alloc::{AllocError, Global};
 
 /// The most calls of one disk that a case may make.
 pub const CALLS_MAX: u64 = 65_536;
@@ -63,6 +61,15 @@ fn numbers_behind(
     }
     let count = opening_calls(alloc, case, file)?;
     Ok(behind(alloc, numbers, count)?)
+}
+
+/// These numbers, each greater by so many.
+fn behind(alloc: Global, numbers: &[u64], count: u64) -> Result<Vec<u64>, AllocError> {
+    let mut greater = Vec::new(alloc);
+    for number in numbers {
+        greater.push(number.saturating_add(count))?;
+    }
+    Ok(greater)
 }
 
 /// How often opening calls a file's disk: the least number of a call that may fail without refusing it.
@@ -180,23 +187,4 @@ fn take_step(
 /// Whether a disk failed for want of memory.
 fn is_starved(a: &MemoryDisk, b: &MemoryDisk) -> bool {
     a.starved() > 0 || b.starved() > 0
-}
-
-/// A clock that tells these moments.
-fn clock_of(alloc: Global, moments: &[u64]) -> Result<ListClock, ScriptFault> {
-    if moments.is_empty() {
-        return Err(ScriptFault::NothingTold);
-    }
-    if !moments.iter().all(|moment| *moment < GREATEST) {
-        return Err(ScriptFault::NoNumber);
-    }
-    Ok(ListClock::new(alloc, moments)?)
-}
-
-/// Dice that tell these words.
-fn dice_of(alloc: Global, words: &[u64]) -> Result<ListDice, ScriptFault> {
-    if words.is_empty() {
-        return Err(ScriptFault::NothingTold);
-    }
-    Ok(ListDice::new(alloc, words)?)
 }

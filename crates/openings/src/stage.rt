@@ -1,9 +1,8 @@
 use crate::answers::{push_answers, push_opening};
 use crate::case::Case;
-use crate::fault::{ScriptFault, Stop};
-use crate::images::choice_of;
 use crate::look::push_found;
 use crate::played::{Played, play_own};
+use fk_cases::{ScriptFault, Stop, choice_of};
 use std::alloc::{AllocError, Global};
 use std::fmt::Write;
 

@@ -1,12 +1,10 @@
 // What two files stand for.
 use crate::answers::{push_answer, push_cause};
 use crate::case::Case;
-use crate::failing::Failing;
-use crate::fault::ScriptFault;
 use crate::file_numbers::numbers_in;
 use crate::played::{Played, play};
-use crate::shown::push_shown;
 use crate::step::Step;
+use fk_cases::{Failing, ScriptFault, push_escaped};
 use fk_disk::Choice;
 use fk_frame::Reply;
 use fk_model::Answer;
@@ -67,7 +65,7 @@ fn push_state(into: &mut String, answers: &[Answer], row: bool) -> Result<(), Sc
         push_answer(into, fetched)?;
         if let Answer::Said(Reply::Bulk(text)) = fetched {
             into.push_str(" ")?;
-            push_shown(into, text.bytes())?;
+            push_escaped(into, text.bytes())?;
         }
     }
     Ok(())

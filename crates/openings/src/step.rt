@@ -3,7 +3,7 @@ ghost use Rattle.std.specs.Prelude.{IfOk};
 ghost use Rattle.fk_job.specs.Spellings.{IsText};
 ghost use Rattle.fk_model.specs.Range.{IsInRange};
 
-use crate::fault::ScriptFault;
+use fk_cases::ScriptFault;
 use fk_command::{Command, read_command};
 use fk_frame::LINE_MAX;
 use fk_json::Text;

@@ -1,5 +1,5 @@
 // Bytes as hexadecimal digits, both ways.
-use crate::fault::ScriptFault;
+use crate::ScriptFault;
 use std::alloc::AllocError;
 
 /// Adds the bytes that a text of hexadecimal digits says, two digits each, with spaces anywhere between.
@@ -34,6 +34,6 @@ pub fn push_digits(into: &mut String, bytes: &[u8]) -> Result<(), AllocError> {
 }
 
 /// The hexadecimal digit of a value, or of its last one.
-pub fn digit_of(value: u8) -> char {
+pub(crate) fn digit_of(value: u8) -> char {
     char::from(b"0123456789abcdef"[usize::from(value % 16)])
 }

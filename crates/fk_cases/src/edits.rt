@@ -1,7 +1,7 @@
 // What a script makes of the bytes of a file.
+use crate::ScriptFault;
 use crate::digits::push_bytes;
-use crate::fault::ScriptFault;
-use crate::numbers::place;
+use crate::said::place;
 
 /// Edits the bytes of a file: `file HEX` adds bytes, `cut LENGTH` leaves so many, `zero PLACE` makes each byte from
 /// there on 0, and `byte PLACE VALUE` makes one byte this value.

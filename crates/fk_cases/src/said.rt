@@ -1,5 +1,5 @@
-// Numbers of a script.
-use crate::fault::ScriptFault;
+// Numbers and names that a script says.
+use crate::ScriptFault;
 use fk_journal::File;
 use std::alloc::Global;
 

@@ -4,7 +4,7 @@ use std::alloc::AllocError;
 
 /// Adds bytes: CR, LF and a backslash as `\r`, `\n` and `\\`, and those that aren't ASCII or have no form of their own
 /// as `\xHH`.
-pub fn push_shown(into: &mut String, bytes: &[u8]) -> Result<(), AllocError> {
+pub fn push_escaped(into: &mut String, bytes: &[u8]) -> Result<(), AllocError> {
     for byte in bytes {
         push_byte(into, *byte)?;
     }

@@ -32,12 +32,3 @@ impl Failing {
         }
     }
 }
-
-/// These numbers, each greater by so many.
-pub fn behind(alloc: Global, numbers: &[u64], count: u64) -> Result<Vec<u64>, AllocError> {
-    let mut greater = Vec::new(alloc);
-    for number in numbers {
-        greater.push(number.saturating_add(count))?;
-    }
-    Ok(greater)
-}

@@ -12,6 +12,8 @@ pub enum ScriptFault {
     NoCase,
     #[error("no number within its range")]
     NoNumber,
+    #[error("no such escape")]
+    NoEscape,
     #[error("no hexadecimal digits, two for each byte")]
     NoDigits,
     #[error("no such file")]
@@ -24,6 +26,14 @@ pub enum ScriptFault {
     NoAsk,
     #[error("no such look")]
     NoLook,
+    #[error("no such move")]
+    NoMove,
+    #[error("a move in files that can't be opened")]
+    NotOpened,
+    #[error("a move that does not fit")]
+    MoveDoesNotFit,
+    #[error("a next number that is not above all tickets and ranks")]
+    NextTooLow,
     #[error("no moment, or no word of the dice")]
     NothingTold,
     #[error("a disk is called too often")]

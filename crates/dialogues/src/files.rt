@@ -1,0 +1,134 @@
+use crate::making::make;
+use crate::opened::{MemoryStore, opened};
+use crate::pieces::{tables_of, with_piece};
+use fk_cases::{ScriptFault, edit};
+use fk_core::Tables;
+use fk_disk::Choice;
+use fk_journal::File;
+use fk_json::Buffer;
+use fk_model::Move;
+use std::alloc::{AllocError, Global};
+
+/// The bytes of the files on which a connection is served.
+#[derive(Drop)]
+pub struct Files {
+    pub a: Vec<u8>,
+    pub b: Vec<u8>,
+    begun: Option<Begun>,
+}
+
+/// A piece that file A doesn't have yet.
+#[derive(Drop)]
+struct Begun {
+    /// What the file and the moves of the piece lead to.
+    tables: Tables,
+    /// The bytes of these moves.
+    moves: Buffer,
+}
+
+impl Files {
+    /// Files of these bytes.
+    pub fn over(alloc: Global, a: &[u8], b: &[u8]) -> Result<Files, AllocError> {
+        Ok(Files {
+            a: Vec::from_slice(alloc, a)?,
+            b: Vec::from_slice(alloc, b)?,
+            begun: None,
+        })
+    }
+
+    /// Edits the bytes of a file, behind the moves that were made before.
+    pub fn edit(
+        &mut self,
+        alloc: Global,
+        file: File,
+        directive: &str,
+        rest: &str,
+    ) -> Result<(), ScriptFault> {
+        self.end_piece(alloc)?;
+        match file {
+            File::A => edit(&mut self.a, directive, rest),
+            File::B => edit(&mut self.b, directive, rest),
+        }
+    }
+
+    /// Makes a move, if it fits. It stands in a piece of file A, which a move ends that tells the numbers.
+    pub fn make(&mut self, alloc: Global, step: Move) -> Result<(), ScriptFault> {
+        let is_last = matches!(&step, Move::Totals { .. });
+        if self.begun.is_none() {
+            self.begin_piece(alloc)?;
+        }
+        self.add(alloc, step)?;
+        if is_last { self.append(alloc) } else { Ok(()) }
+    }
+
+    /// Puts the piece that was begun into file A, behind a move that tells the numbers as they are.
+    pub fn end_piece(&mut self, alloc: Global) -> Result<(), ScriptFault> {
+        let numbers = match &self.begun {
+            Some(begun) => last_move(&begun.tables)?,
+            None => return Ok(()),
+        };
+        self.add(alloc, numbers)?;
+        self.append(alloc)
+    }
+
+    /// Begins a piece, in a new file where both are blank. Files that are damaged take no moves.
+    fn begin_piece(&mut self, alloc: Global) -> Result<(), ScriptFault> {
+        self.a = bytes_once_open(alloc, &self.a, &self.b)?;
+        self.begun = Some(Begun {
+            tables: tables_of(alloc, &self.a)?,
+            moves: Buffer::new(alloc),
+        });
+        Ok(())
+    }
+
+    /// Makes a move of the piece that was begun, if it fits.
+    fn add(&mut self, alloc: Global, step: Move) -> Result<(), ScriptFault> {
+        match &mut self.begun {
+            Some(begun) => make(alloc, &mut begun.tables, &mut begun.moves, step),
+            None => Ok(()),
+        }
+    }
+
+    /// Puts the piece that was begun into file A.
+    fn append(&mut self, alloc: Global) -> Result<(), ScriptFault> {
+        if let Some(begun) = &self.begun {
+            self.a = with_piece(alloc, &self.a, begun.moves.bytes())?;
+        }
+        self.begun = None;
+        Ok(())
+    }
+}
+
+/// The bytes of file A once a store is open on both.
+fn bytes_once_open(alloc: Global, a: &[u8], b: &[u8]) -> Result<Vec<u8>, ScriptFault> {
+    match opened(alloc, a, b)? {
+        Some(store) => Ok(bytes_left(alloc, store)?),
+        None => Err(ScriptFault::NotOpened),
+    }
+}
+
+/// What a read gives of file A of a store.
+fn bytes_left(alloc: Global, store: MemoryStore) -> Result<Vec<u8>, AllocError> {
+    let (a, _) = store.close();
+    let text = a.image(Choice::New)?;
+    Vec::from_slice(alloc, text.bytes())
+}
+
+/// The move that ends a piece: it tells the numbers as they are.
+fn last_move(tables: &Tables) -> Result<Move, ScriptFault> {
+    let numbers = numbers_of(tables);
+    if tables.fits(&numbers) {
+        Ok(numbers)
+    } else {
+        Err(ScriptFault::NextTooLow)
+    }
+}
+
+/// The move that tells the numbers as they are.
+fn numbers_of(tables: &Tables) -> Move {
+    Move::Totals {
+        next: tables.next(),
+        processed: tables.processed(),
+        failures: tables.failures(),
+    }
+}
