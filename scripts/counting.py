@@ -3,7 +3,8 @@ import os
 import re
 import shutil
 import subprocess
-import tempfile
+
+import folders
 
 INSTRUCTIONS = ["--tool=callgrind", "--callgrind-out-file=counts"], r"Collected : (\d+)"
 ALLOCATIONS = ["--leak-check=no"], r"total heap usage: ([\d,]+) allocs"
@@ -15,9 +16,9 @@ def is_there():
 
 
 def counted(what, command, text):
-    """The count while the command reads the text, or an error where valgrind didn't count."""
+    """The count while the command reads the text, in a new folder, or an error where valgrind didn't count."""
     tool, pattern = what
-    with tempfile.TemporaryDirectory() as folder:
+    with folders.in_memory() as folder:
         path = os.path.join(folder, "input")
         with open(path, "wb") as file:
             file.write(text)

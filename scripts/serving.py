@@ -5,6 +5,8 @@ import sys
 import threading
 import time
 
+import folders
+
 TOP = os.path.join(os.path.dirname(os.path.abspath(__file__)), "..")
 PROGRAM = os.path.join(TOP, "crates", "faktory_server", "out", "faktory_server")
 HELLO = b'HELLO {"v":2}\r\n'
@@ -22,7 +24,7 @@ def stop(text):
 def find_program():
     """Fails where the server isn't built."""
     if not os.access(PROGRAM, os.X_OK):
-        stop("the server isn't built: ./run faktory_server pipe </dev/null builds it")
+        stop("the server isn't built: ./run faktory_server builds it")
 
 
 def jid(number):
@@ -56,13 +58,20 @@ def acknowledge(number):
 
 
 class Server:
-    """A server that has said its greeting and taken a HELLO."""
+    """A server that has said its greeting and taken a HELLO. Its files lie in the folder, which stays, or in one of its
+    own in memory, which goes with it."""
 
-    def __init__(self):
+    def __init__(self, folder=None):
         find_program()
-        self.process = subprocess.Popen([PROGRAM, "pipe"], stdin=subprocess.PIPE, stdout=subprocess.PIPE)
+        self.own = None if folder else folders.in_memory()
+        words = [PROGRAM, "pipe", "--dir", folder or self.own.name]
+        begun = time.monotonic()
+        self.process = subprocess.Popen(words, stdin=subprocess.PIPE, stdout=subprocess.PIPE)
         self.clock = (~self.process.pid << 3) | 2
-        self.process.stdout.readline()
+        greeting = self.process.stdout.readline()
+        self.opened_in = time.monotonic() - begun
+        if not greeting.startswith(b"+HI "):
+            stop("the server didn't greet")
         self.ask(HELLO)
 
     def say(self, lines):
@@ -123,3 +132,5 @@ class Server:
         self.process.stdout.read()
         if self.process.wait() != 0:
             stop("the server ended with a failing status")
+        if self.own:
+            self.own.cleanup()
