@@ -14,12 +14,11 @@ use std::alloc::{AllocError, Global};
 pub struct Files {
     pub a: Vec<u8>,
     pub b: Vec<u8>,
-    begun: Option<Begun>,
 }
 
 /// A piece that file A doesn't have yet.
 #[derive(Drop)]
-struct Begun {
+pub struct Begun {
     /// What the file and the moves of the piece lead to.
     tables: Tables,
     /// The bytes of these moves.
@@ -27,76 +26,81 @@ struct Begun {
 }
 
 impl Files {
-    /// Files of these bytes.
-    pub fn over(alloc: Global, a: &[u8], b: &[u8]) -> Result<Files, AllocError> {
-        Ok(Files {
-            a: Vec::from_slice(alloc, a)?,
-            b: Vec::from_slice(alloc, b)?,
-            begun: None,
-        })
+    /// Files without a byte.
+    pub fn blank(alloc: Global) -> Files {
+        Files {
+            a: Vec::new(alloc),
+            b: Vec::new(alloc),
+        }
     }
 
-    /// Edits the bytes of a file, behind the moves that were made before.
-    pub fn edit(
-        &mut self,
-        alloc: Global,
-        file: File,
-        directive: &str,
-        rest: &str,
-    ) -> Result<(), ScriptFault> {
-        self.end_piece(alloc)?;
+    /// Edits the bytes of a file.
+    pub fn edit(&mut self, file: File, directive: &str, rest: &str) -> Result<(), ScriptFault> {
         match file {
             File::A => edit(&mut self.a, directive, rest),
             File::B => edit(&mut self.b, directive, rest),
         }
     }
+}
 
-    /// Makes a move, if it fits. It stands in a piece of file A, which a move ends that tells the numbers.
-    pub fn make(&mut self, alloc: Global, step: Move) -> Result<(), ScriptFault> {
-        let is_last = matches!(&step, Move::Totals { .. });
-        if self.begun.is_none() {
-            self.begin_piece(alloc)?;
-        }
-        self.add(alloc, step)?;
-        if is_last { self.append(alloc) } else { Ok(()) }
+/// Makes a move, if it fits, in the piece that was begun or in a new one. A move ends it that tells the numbers.
+pub fn make_in(
+    alloc: Global,
+    files: &mut Files,
+    begun: &mut Option<Begun>,
+    step: Move,
+) -> Result<(), ScriptFault> {
+    let is_last = matches!(&step, Move::Totals { .. });
+    if begun.is_none() {
+        begin(alloc, files, begun)?;
     }
-
-    /// Puts the piece that was begun into file A, behind a move that tells the numbers as they are.
-    pub fn end_piece(&mut self, alloc: Global) -> Result<(), ScriptFault> {
-        let numbers = match &self.begun {
-            Some(begun) => last_move(&begun.tables)?,
-            None => return Ok(()),
-        };
-        self.add(alloc, numbers)?;
-        self.append(alloc)
-    }
-
-    /// Begins a piece, in a new file where both are blank. Files that are damaged take no moves.
-    fn begin_piece(&mut self, alloc: Global) -> Result<(), ScriptFault> {
-        self.a = bytes_once_open(alloc, &self.a, &self.b)?;
-        self.begun = Some(Begun {
-            tables: tables_of(alloc, &self.a)?,
-            moves: Buffer::new(alloc),
-        });
+    add(alloc, begun, step)?;
+    if is_last {
+        append(alloc, files, begun)
+    } else {
         Ok(())
     }
+}
 
-    /// Makes a move of the piece that was begun, if it fits.
-    fn add(&mut self, alloc: Global, step: Move) -> Result<(), ScriptFault> {
-        match &mut self.begun {
-            Some(begun) => make(alloc, &mut begun.tables, &mut begun.moves, step),
-            None => Ok(()),
-        }
-    }
+/// Puts the piece that was begun into file A, behind a move that tells the numbers as they are.
+pub fn end_piece(
+    alloc: Global,
+    files: &mut Files,
+    begun: &mut Option<Begun>,
+) -> Result<(), ScriptFault> {
+    let numbers = match begun {
+        Some(begun) => last_move(&begun.tables)?,
+        None => return Ok(()),
+    };
+    add(alloc, begun, numbers)?;
+    append(alloc, files, begun)
+}
 
-    /// Puts the piece that was begun into file A.
-    fn append(&mut self, alloc: Global) -> Result<(), ScriptFault> {
-        if let Some(begun) = &self.begun {
-            self.a = with_piece(alloc, &self.a, begun.moves.bytes())?;
-        }
-        self.begun = None;
-        Ok(())
+/// Begins a piece, in a new file where both are blank. Files that are damaged take no moves.
+fn begin(alloc: Global, files: &mut Files, begun: &mut Option<Begun>) -> Result<(), ScriptFault> {
+    files.a = bytes_once_open(alloc, &files.a, &files.b)?;
+    *begun = Some(Begun {
+        tables: tables_of(alloc, &files.a)?,
+        moves: Buffer::new(alloc),
+    });
+    Ok(())
+}
+
+/// Makes a move of the piece that was begun, if it fits.
+fn add(alloc: Global, begun: &mut Option<Begun>, step: Move) -> Result<(), ScriptFault> {
+    match begun {
+        Some(begun) => make(alloc, &mut begun.tables, &mut begun.moves, step),
+        None => Ok(()),
     }
+}
+
+/// Puts the piece that was begun into file A.
+fn append(alloc: Global, files: &mut Files, begun: &mut Option<Begun>) -> Result<(), ScriptFault> {
+    if let Some(begun) = begun {
+        files.a = with_piece(alloc, &files.a, begun.moves.bytes())?;
+    }
+    *begun = None;
+    Ok(())
 }
 
 /// The bytes of file A once a store is open on both.

@@ -1,6 +1,5 @@
 // What connections leave of the files.
 use crate::files::Files;
-use fk_cases::ScriptFault;
 use fk_disk::{Choice, MemoryDisk};
 use fk_journal::File;
 use fk_json::Text;
@@ -14,16 +13,19 @@ pub struct Left {
 }
 
 impl Left {
-    /// The files as reads give them.
-    pub fn files(&self, alloc: Global) -> Result<Files, ScriptFault> {
-        self.images(alloc, Choice::New, Choice::New)
-    }
-
-    /// The files as a crash may leave them, by a choice for each.
-    pub fn images(&self, alloc: Global, a: Choice, b: Choice) -> Result<Files, ScriptFault> {
-        let a = self.a.image(a)?;
-        let b = self.b.image(b)?;
-        Ok(Files::over(alloc, a.bytes(), b.bytes())?)
+    /// Lays out the files as a crash may leave them, by a choice for each.
+    pub fn lay(
+        &self,
+        alloc: Global,
+        files: &mut Files,
+        a: Choice,
+        b: Choice,
+    ) -> Result<(), AllocError> {
+        let image = self.a.image(a)?;
+        files.a = Vec::from_slice(alloc, image.bytes())?;
+        let image = self.b.image(b)?;
+        files.b = Vec::from_slice(alloc, image.bytes())?;
+        Ok(())
     }
 
     /// The bytes of a file, as reads give them.

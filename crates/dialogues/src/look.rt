@@ -123,8 +123,9 @@ fn push_kept(
     look: &KeptLook,
     outcome: &Outcome,
 ) -> Result<(), ScriptFault> {
-    let files = outcome.left.files(alloc)?;
-    match opened(alloc, &files.a, &files.b)? {
+    let a = outcome.left.bytes(File::A)?;
+    let b = outcome.left.bytes(File::B)?;
+    match opened(alloc, a.bytes(), b.bytes())? {
         Some(store) => Ok(push_found_in(into, look, store.tables())?),
         None => Ok(into.push_str("none")?),
     }

@@ -2,7 +2,6 @@ use crate::escape::push_unescaped;
 use crate::files::Files;
 use crate::look::{Look, look_of};
 use crate::numbers::{lengths, times};
-use crate::steps::move_of;
 use fk_cases::{Failing, ScriptFault, file_of, numbers};
 use std::alloc::{AllocError, Global};
 
@@ -43,14 +42,14 @@ pub struct Run<'a> {
 }
 
 impl<'a> Run<'a> {
-    /// A connection on which nothing is sent, over these files.
-    pub fn over(alloc: Global, files: Files) -> Result<Run<'a>, AllocError> {
+    /// A connection on which nothing is sent, over blank files.
+    pub fn new(alloc: Global) -> Result<Run<'a>, AllocError> {
         Ok(Run {
-            files,
-            failing: Failing::none(alloc),
             words: vec![in alloc; "pipe"]?,
             moments: vec![in alloc; MOMENT]?,
             dice: vec![in alloc; 0]?,
+            files: Files::blank(alloc),
+            failing: Failing::none(alloc),
             input: Vec::new(alloc),
             cuts: Vec::new(alloc),
             failing_reads: Vec::new(alloc),
@@ -85,7 +84,6 @@ impl<'a> Run<'a> {
                 text: rest,
                 look: look_of(alloc, rest)?,
             })?,
-            "move" => self.files.make(alloc, move_of(alloc, rest)?)?,
             _ => self.take_file_line(alloc, directive, rest)?,
         }
         Ok(())
@@ -102,7 +100,7 @@ impl<'a> Run<'a> {
         match directive {
             "failing-disk" => self.failing.set(file_of(word)?, numbers(alloc, rest)?),
             "file" | "cut" | "zero" | "byte" => {
-                self.files.edit(alloc, file_of(word)?, directive, rest)?;
+                self.files.edit(file_of(word)?, directive, rest)?;
             }
             _ => return Err(ScriptFault::NoDirective),
         }

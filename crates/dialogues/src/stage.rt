@@ -1,20 +1,23 @@
-use crate::files::Files;
+use crate::files::{Begun, end_piece, make_in};
 use crate::left::Left;
 use crate::look::push_found;
 use crate::run::Run;
 use crate::serving::{Outcome, serve};
 use crate::shown::push_written;
+use crate::steps::move_of;
 use fk_cases::{ScriptFault, Stop, choice_of};
+use fk_disk::Choice;
 use fk_journal::{Damage, File};
 use std::alloc::{AllocError, Global};
 use std::fmt::Write;
 
-/// Where a script is played: the run that is being read, what the one before it left of its files, and what came of all
-/// before.
+/// Where a script is played: the run that is being read, the piece of its file that was begun, what the run before it
+/// left of its files, and what came of all before.
 #[derive(Drop)]
 pub struct Stage<'a> {
     alloc: Global,
     run: Option<Run<'a>>,
+    begun: Option<Begun>,
     left: Option<Left>,
     transcript: String,
 }
@@ -25,6 +28,7 @@ impl<'a> Stage<'a> {
         Stage {
             alloc,
             run: None,
+            begun: None,
             left: None,
             transcript: String::new(alloc),
         }
@@ -62,68 +66,112 @@ impl<'a> Stage<'a> {
         match directive {
             "run" => {
                 self.finish()?;
-                let files = Files::over(self.alloc, &[], &[])?;
-                self.begin(line, files)
+                self.begin(line)
             }
             "then" => {
                 self.finish()?;
-                let files = self.files_left()?;
-                self.begin(line, files)
+                self.begin(line)?;
+                self.lay(Choice::New, Choice::New)
             }
             "after" => {
                 self.finish()?;
-                let files = self.files_after(rest)?;
-                self.begin(line, files)
+                self.begin(line)?;
+                self.lay_after(rest)
             }
-            _ => match &mut self.run {
-                Some(run) => run.take_line(self.alloc, directive, rest),
-                None => Err(ScriptFault::NoCase),
-            },
+            "move" => self.make(rest),
+            _ => self.take_run_line(directive, rest),
         }
     }
 
-    /// The files that the run before left.
-    fn files_left(&self) -> Result<Files, ScriptFault> {
-        let left = self.left.as_ref().ok_or(ScriptFault::NoImage)?;
-        left.files(self.alloc)
-    }
-
-    /// The files that a crash may have left of the run before, by the choices of the first two words.
-    fn files_after(&self, rest: &str) -> Result<Files, ScriptFault> {
-        let (a, rest) = rest.split_once(' ').ok_or(ScriptFault::NoImage)?;
-        let (b, _) = rest.split_once(' ').unwrap_or((rest, ""));
-        let left = self.left.as_ref().ok_or(ScriptFault::NoImage)?;
-        left.images(self.alloc, choice_of(a)?, choice_of(b)?)
-    }
-
-    /// Begins a run over these files, whose name is in this line.
-    fn begin(&mut self, line: &str, files: Files) -> Result<(), ScriptFault> {
+    /// Begins a run over blank files, whose name is in this line.
+    fn begin(&mut self, line: &str) -> Result<(), ScriptFault> {
         if !self.transcript.is_empty() {
             self.transcript.push_str("\n")?;
         }
         writeln!(self.transcript, "{line}")?;
-        self.run = Some(Run::over(self.alloc, files)?);
+        self.run = Some(Run::new(self.alloc)?);
         Ok(())
+    }
+
+    /// Lays out what a crash may have left of the run before, by the choices of the first two words.
+    fn lay_after(&mut self, rest: &str) -> Result<(), ScriptFault> {
+        let (a, rest) = rest.split_once(' ').ok_or(ScriptFault::NoImage)?;
+        let (b, _) = rest.split_once(' ').unwrap_or((rest, ""));
+        self.lay(choice_of(a)?, choice_of(b)?)
+    }
+
+    /// Lays out the files that the run before left, by a choice for each.
+    fn lay(&mut self, a: Choice, b: Choice) -> Result<(), ScriptFault> {
+        let Some(run) = &mut self.run else {
+            return Err(ScriptFault::NoCase);
+        };
+        match &self.left {
+            Some(left) => Ok(left.lay(self.alloc, &mut run.files, a, b)?),
+            None => Err(ScriptFault::NoImage),
+        }
+    }
+
+    /// Makes a move before the connection is served.
+    fn make(&mut self, text: &str) -> Result<(), ScriptFault> {
+        let step = move_of(self.alloc, text)?;
+        match &mut self.run {
+            Some(run) => make_in(self.alloc, &mut run.files, &mut self.begun, step),
+            None => Err(ScriptFault::NoCase),
+        }
+    }
+
+    /// Takes a line of the run that is read, behind the moves that were made before.
+    fn take_run_line(&mut self, directive: &str, rest: &'a str) -> Result<(), ScriptFault> {
+        match &mut self.run {
+            Some(run) => {
+                if is_edit(directive) {
+                    end_piece(self.alloc, &mut run.files, &mut self.begun)?;
+                }
+                run.take_line(self.alloc, directive, rest)
+            }
+            None => Err(ScriptFault::NoCase),
+        }
     }
 
     /// Serves the run that was read, if there is one, and writes down what came of it.
     fn finish(&mut self) -> Result<(), ScriptFault> {
-        let Some(mut run) = self.run.take() else {
-            return Ok(());
-        };
-        run.files.end_piece(self.alloc)?;
-        let outcome = serve(self.alloc, &run)?;
-        push_written(&mut self.transcript, &outcome.written)?;
-        push_status(&mut self.transcript, &outcome)?;
-        for asked in &run.looks {
-            let text = asked.text;
-            write!(self.transcript, "{text}:")?;
-            push_found(self.alloc, &mut self.transcript, &asked.look, &outcome)?;
-            self.transcript.push_str("\n")?;
+        if let Some(run) = &mut self.run {
+            end_piece(self.alloc, &mut run.files, &mut self.begun)?;
+            self.left = Some(play_out(self.alloc, &mut self.transcript, run)?);
         }
-        self.left = Some(outcome.left);
+        self.run = None;
         Ok(())
     }
+}
+
+/// Whether a directive edits the bytes of a file.
+fn is_edit(directive: &str) -> bool {
+    matches!(directive, "file" | "cut" | "zero" | "byte")
+}
+
+/// Serves a run, writes down what came of it, and answers what it left.
+fn play_out(alloc: Global, transcript: &mut String, run: &Run) -> Result<Left, ScriptFault> {
+    let outcome = serve(alloc, run)?;
+    write_down(alloc, transcript, run, &outcome)?;
+    Ok(outcome.left)
+}
+
+/// Writes down what came of a run.
+fn write_down(
+    alloc: Global,
+    transcript: &mut String,
+    run: &Run,
+    outcome: &Outcome,
+) -> Result<(), ScriptFault> {
+    push_written(transcript, &outcome.written)?;
+    push_status(transcript, outcome)?;
+    for asked in &run.looks {
+        let text = asked.text;
+        write!(transcript, "{text}:")?;
+        push_found(alloc, transcript, &asked.look, outcome)?;
+        transcript.push_str("\n")?;
+    }
+    Ok(())
 }
 
 /// Adds the status of a connection, and the damage of its files where there is one.
