@@ -8,3 +8,4 @@ pub mod Found
 pub mod Unread
 pub mod Fronted
 pub mod Searches
+pub mod Cuts

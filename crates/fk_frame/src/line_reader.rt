@@ -4,15 +4,13 @@ ghost use Rattle.fk_frame.specs.Bytes.{is_line_feed};
 ghost use Rattle.fk_frame.specs.Lines.{is_too_long, without_return};
 ghost use Rattle.fk_frame.specs.Reading.{HasLine, Reads};
 
+use crate::front_cut::give_up_first;
 use fk_json::Text;
 use std::alloc::{AllocError, Global};
 use std::marker::Model;
 
 /// The most bytes that a line may have before its LF, with the CR.
 pub const LINE_MAX: usize = 4_194_304;
-
-/// The bytes whose memory is kept for the lines to come.
-const ROOM_KEPT: usize = 65_536;
 
 /// What a reader of lines has next.
 #[derive(Drop)]
@@ -29,7 +27,7 @@ pub enum Line {
 ///
 /// Bytes in front of `from` were given out, and those from there to `scanned` hold no LF, so no
 /// byte is looked at twice. What was given out is cut off when at least half of the buffer is, and
-/// what a long line took beyond `ROOM_KEPT` bytes is given back.
+/// what a long line took is given back.
 #[derive(Drop)]
 pub struct LineReader {
     buffer: Vec<u8>,
@@ -101,8 +99,7 @@ impl LineReader {
         ensures { self.new ≡ self.old }
     {
         if self.from > 0 && self.from >= self.buffer.len() - self.from {
-            self.buffer.drain(..self.from);
-            self.buffer.shrink_to(ROOM_KEPT);
+            give_up_first(&mut self.buffer, self.from);
             self.scanned -= self.from;
             self.from = 0;
         }

@@ -4,21 +4,19 @@ ghost use Rattle.fk_frame.specs.Fronts.{is_break};
 ghost use Rattle.fk_frame.specs.Streams.{Gives};
 
 use crate::front::first_reply;
+use crate::front_cut::give_up_first;
 use crate::line_reader::bytes_from;
 use crate::reply::Reply;
 use crate::reply_fault::ReplyFault;
 use std::alloc::{AllocError, Global};
 use std::marker::Model;
 
-/// The bytes whose memory is kept for the replies to come.
-const ROOM_KEPT: usize = 65_536;
-
 /// Reads the replies of a stream that comes in any pieces.
 ///
 /// Bytes in front of `from` were given out, and those from there to `scanned` hold no CR and no LF,
 /// so no byte of a line is looked at twice, and a bulk's bytes are looked at once all of them are
 /// there. What was given out is cut off when at least half of the buffer is, and what a long reply
-/// took beyond `ROOM_KEPT` bytes is given back.
+/// took is given back.
 #[derive(Drop)]
 pub struct ReplyReader {
     buffer: Vec<u8>,
@@ -86,8 +84,7 @@ impl ReplyReader {
         ensures { self.new ≡ self.old }
     {
         if self.from > 0 && self.from >= self.buffer.len() - self.from {
-            self.buffer.drain(..self.from);
-            self.buffer.shrink_to(ROOM_KEPT);
+            give_up_first(&mut self.buffer, self.from);
             self.scanned -= self.from;
             self.from = 0;
         }

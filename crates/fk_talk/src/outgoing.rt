@@ -6,13 +6,10 @@ ghost use Rattle.fk_model.specs.Answers.{answer_bytes};
 ghost use Rattle.fk_model.specs.Handshake as spec;
 
 use crate::password::salt_text;
-use fk_frame::Reply;
+use fk_frame::{Reply, give_up_first};
 use fk_model::{Answer, Gate};
 use std::alloc::{AllocError, Global};
 use std::marker::Model;
-
-/// The bytes whose memory is kept for what comes.
-const ROOM_KEPT: usize = 65_536;
 
 /// The bytes that are to be sent. Those in front of `from` were sent, and are cut off when they are at
 /// least as many as the others.
@@ -109,8 +106,7 @@ impl Outgoing {
     {
         self.from += count;
         if self.from >= self.buffer.len() - self.from {
-            self.buffer.drain(..self.from);
-            self.buffer.shrink_to(ROOM_KEPT);
+            give_up_first(&mut self.buffer, self.from);
             self.from = 0;
         }
     }
