@@ -66,38 +66,3 @@ impl MemoryDisk {
         }
     }
 }
-
-#[cfg(test)]
-mod tests {
-    use super::*;
-    use crate::Disk;
-    use fk_io::Failed;
-    use std::test::Fail;
-
-    #[test]
-    fn a_failing_write_has_written_half_of_its_bytes(rt: HostRuntime) -> Result<(), Fail> {
-        let mut disk = MemoryDisk::new(rt.alloc(), b"abcd", &[0])?;
-        assert_eq!(rt; disk.write_at(1, b"xy"), Err(Failed));
-        assert_eq!(rt; disk.image(Choice::Old)?.bytes(), b"abcd".as_slice());
-        assert_eq!(rt; disk.image(Choice::New)?.bytes(), b"axcd".as_slice());
-        assert_eq!(rt; disk.image(Choice::Torn)?.bytes(), b"a\xff\xffd".as_slice());
-        assert_eq!(rt; (disk.faults(), disk.starved()), (1, 0));
-        Ok(())
-    }
-
-    #[test]
-    fn a_disk_is_written_cut_and_synced(rt: HostRuntime) -> Result<(), Fail> {
-        let mut disk = MemoryDisk::new(rt.alloc(), b"ab", &[])?;
-        assert_eq!(rt; disk.write_at(2, b"cd"), Ok(()));
-        assert_eq!(rt; disk.cut(3), Ok(()));
-        assert_eq!(rt; disk.len(), Ok(3));
-        assert_eq!(rt; disk.image(Choice::Torn)?.bytes(), b"ab\xff".as_slice());
-        assert_eq!(rt; disk.sync(), Ok(()));
-        assert_eq!(rt; disk.image(Choice::Torn)?.bytes(), b"abc".as_slice());
-        let mut buffer = [0; 2];
-        assert_eq!(rt; disk.read_at(1, &mut buffer), Ok(()));
-        assert_eq!(rt; buffer, *b"bc");
-        assert_eq!(rt; (disk.faults(), disk.starved()), (0, 0));
-        Ok(())
-    }
-}

@@ -7,4 +7,3 @@ pub mod Spelled
 pub mod Readings
 mod Taking
 mod Due
-mod Fresh

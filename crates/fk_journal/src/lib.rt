@@ -8,8 +8,6 @@ mod journal;
 mod parts;
 mod reading;
 mod replaying;
-#[cfg(test)]
-mod tests;
 mod writing;
 
 pub use fault::{Damage, File, OpenFault, Refused, Replay};
