@@ -1,13 +1,14 @@
 -- Bytes that stand for themselves in a string, read and written at once.
 use Rattle.std.proofs.Common.{◌≡◌, ℕ, suc, ◌+◌, Bool, true, false, cond, List, [], ◌∷◌, ◌++◌, take, drop, flat_map, Option, None, Some, refl, sym, ap, subst, ◌∙◌, arith}
 use Rattle.std.specs.List.{prefix_len, take_while}
+use Rattle.std.specs.Str.{bytes_eq}
 use Rattle.std.proofs.lemmas.Bool.{le-ltb, ne_eqb}
 use Rattle.std.proofs.lemmas.Bool.Decides.{nat_tests}
 use Rattle.std.proofs.lemmas.List.{append-nil, append_assoc}
-use Rattle.fk_json.specs.Pieces.{GainsBehind, Takes, sense}
+use Rattle.fk_json.specs.Pieces.{GainsBehind, StandsFor, Takes, sense}
 use Rattle.fk_json.specs.String.{IsPart, byte, is_itself, spelled_byte}
 use Rattle.fk_json.specs.declared.piece.Piece.TheVariants.{Byte}
-use Rattle.fk_json.proofs.Parts.{Reading, begins, goes_on}
+use Rattle.fk_json.proofs.Parts.{Reading, begins, closes, goes_on}
 
 one_more : (n : ℕ) → 1 + n ≡ suc n
 one_more n = omega arith
@@ -61,6 +62,18 @@ reading_behind None value bytes new rest inside gains reading =
 reading_behind (Some high) value bytes new rest inside same reading =
     subst (λ x. Reading x (Some high) new inside) (sym same.1)
     (subst (λ x. Reading bytes (Some high) x inside) (sym same.0) reading)
+
+only_quote : StandsFor None (34 ∷ []) []
+only_quote = record { parts = []; each = tt; whole = refl; means = refl }
+
+-- bytes that stand for themselves, and the closing quote behind them, stand for these bytes
+pub plain_stands : (inside plain rest value : List ℕ) (answer : Bool) → plain ≡ take_while is_itself inside
+    → rest ≡ drop (prefix_len is_itself inside) inside → value ≡ plain → answer ≡ bytes_eq rest (34 ∷ [])
+    → answer ≡ true → StandsFor None inside value
+plain_stands inside plain rest value answer is behind copied quoted holds =
+    let reading = reading_starts inside [] value rest refl (copied ∙ is) behind in
+    subst (StandsFor None inside) (append-nil value)
+    (reading.onward [] (subst (λ x. StandsFor None x []) (sym (closes rest answer quoted holds)) only_quote))
 
 -- ---- written
 

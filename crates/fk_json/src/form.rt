@@ -25,6 +25,20 @@ impl Form {
         }
     }
 
+    /// A copy of the bytes.
+    pub(crate) fn copy(alloc: Global, bytes: &[u8]) -> Result<Form, AllocError>
+        ensures { IfOk result (λ form. bytes_of form ≡ bytes.now) }
+    {
+        if bytes.len() <= MOST_SHORT {
+            let mut short = Short::new();
+            short.push(bytes);
+            return Ok(Form::Short(short));
+        }
+        let mut owned = Vec::with_capacity(alloc, bytes.len())?;
+        owned.extend_from_slice(bytes)?;
+        Ok(Form::Owned(owned))
+    }
+
     /// A copy of two parts, one behind the other.
     pub(crate) fn joined(alloc: Global, front: &[u8], back: &[u8]) -> Result<Form, AllocError>
         ensures { IfOk result (λ form. bytes_of form ≡ front.now ++ back.now) }

@@ -151,7 +151,6 @@ impl ListWithRoom<(u64, u64)> {
         ensures stays { OnErr result (self.old.spare ≤ self.new.spare) }
         ensures ready { length others.now ≤ self.old.spare → IsOk result }
     {
-        self.items.reserve(others.len())?;
         self.items.extend_from_slice(others)
     }
 }
@@ -166,7 +165,6 @@ impl ListWithRoom<u8> {
         ensures stays { OnErr result (self.old.spare ≤ self.new.spare) }
         ensures ready { length bytes.now ≤ self.old.spare → IsOk result }
     {
-        self.items.reserve(bytes.len())?;
         self.items.extend_from_slice(bytes)
     }
 

@@ -99,7 +99,7 @@ fn token_run(text: &[u8], from: usize, token: Token) -> Run<Token>
     }
 }
 
-// Reads on to the end of a string.
+// Reads on to the end of a string. Behind its closing quote no byte is looked at.
 fn string_run(text: &[u8], from: usize, mode: StringMode) -> Run<StringMode>
     requires { from ≤ length text.now }
     ensures { RunsTo string_step text.now from mode result.to result.mode }
@@ -109,6 +109,12 @@ fn string_run(text: &[u8], from: usize, mode: StringMode) -> Run<StringMode>
     let mut mode = first.mode;
     'parts: while to < text.len() {
         match string_step(mode, text[to]) {
+            Some(StringMode::Closed) => {
+                return Run {
+                    to: to + 1,
+                    mode: StringMode::Closed,
+                };
+            }
             Some(next) => {
                 let run = behind_part(text, to + 1, next);
                 to = run.to;

@@ -41,9 +41,17 @@ fn push_run<'a>(out: &mut Text, bytes: &'a [u8]) -> Result<&'a [u8], AllocError>
     ensures rest { IfOk result
         (λ rest. rest.now ≡ drop (prefix_len is_itself bytes.now) bytes.now) }
 {
-    let (run, rest) = bytes.split_at(itself_end(bytes, 0));
+    let (run, rest) = itself_front(bytes);
     out.push_bytes(run)?;
     Ok(rest)
+}
+
+// The bytes at the front that stand for themselves in a string, and what stands behind them.
+fn itself_front(bytes: &[u8]) -> (&[u8], &[u8])
+    ensures run { result.0.now ≡ take_while is_itself bytes.now }
+    ensures rest { result.1.now ≡ drop (prefix_len is_itself bytes.now) bytes.now }
+{
+    bytes.split_at(itself_end(bytes, 0))
 }
 
 // One byte of a value, as it is written.
@@ -118,8 +126,20 @@ fn behind_quote(alloc: Global, byte: u8, inside: &[u8]) -> Result<Option<Text>, 
     }
 }
 
-// What parts and a closing quote stand for.
+// What parts and a closing quote stand for. Where no part is an escape, it is a copy of them.
 fn decoded(alloc: Global, inside: &[u8]) -> Result<Option<Text>, AllocError>
+    ensures some { IfOk result (λ found. IfSome found (λ value. StandsFor None inside.now value)) }
+    ensures none { result ≡ Ok None → (value : List ℕ) → ¬ StandsFor None inside.now value }
+{
+    let (plain, rest) = itself_front(inside);
+    if is_quote(rest) {
+        return Ok(Some(Text::copy(alloc, plain)?));
+    }
+    decoded_parts(alloc, inside)
+}
+
+// The same, by runs between escapes.
+fn decoded_parts(alloc: Global, inside: &[u8]) -> Result<Option<Text>, AllocError>
     ensures some { IfOk result (λ found. IfSome found (λ value. StandsFor None inside.now value)) }
     ensures none { result ≡ Ok None → (value : List ℕ) → ¬ StandsFor None inside.now value }
 {

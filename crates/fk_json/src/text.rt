@@ -61,7 +61,7 @@ impl Text {
         ensures { IfOk result (λ text. text ≡ bytes.now) }
     {
         Ok(Text {
-            form: Form::joined(alloc, b"", bytes)?,
+            form: Form::copy(alloc, bytes)?,
             alloc,
         })
     }

@@ -1,6 +1,6 @@
 use Rattle.std.proofs.Common.{length}
 use Rattle.fk_json.proofs.Parts.{Reading}
-use Rattle.fk_json.proofs.string.decoded.Given as goal
+use Rattle.fk_json.proofs.string.decoded_parts.Given as goal
 
 -- the value so far, and what is left, are what the whole stands for
 abbrev pub invariant-parts : goal.invariant-parts
