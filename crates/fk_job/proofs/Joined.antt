@@ -82,19 +82,15 @@ pub as_many : (members : List Member) → length (counting_flags members) ≡ le
 as_many [] = refl
 as_many (m ∷ members) = ap suc (as_many members)
 
-pub one_written : (text : List ℕ) (members : List Member) (at : ℕ) (member : Member) (d counts : Bool)
-    (flags : List Bool) (body new : List ℕ) → at < length members → member ≡ get_or members at member
-    → flags ≡ counting_flags members → counts ≡ get_or flags at d
+pub one_written : (text : List ℕ) (members : List Member) (at : ℕ) (member : Member) (counts : Bool)
+    (body new : List ℕ) → at < length members → member ≡ get_or members at member
+    → counts ≡ not (list_any (is_named member.name) (drop (at + 1) members))
     → new ≡ with_counting text counts body member → Written text members at body
     → Written text members (at + 1) new
-one_written text members at member d counts flags body new inside is told count adds so_far =
+one_written text members at member counts body new inside is counted adds so_far =
     let left = drop (at + 1) members in
-    let next : suc at ≡ at + 1 = omega arith in
     let there : drop at members ≡ member ∷ left
     = drop_more members at member inside ∙ ap (λ m. m ∷ left) (sym is) in
-    let counted : counts ≡ not (list_any (is_named member.name) left)
-    = count ∙ ap (λ l. get_or l at d) told ∙ flag_at members at member d inside is
-    ∙ ap (λ k. not (list_any (is_named member.name) (drop k members))) next in
     record {
       inside = omega arith;
       whole = ap (λ l. behind_text l (pieces_of text left)) (adds ∙ ap (λ t. with_counting text t body member) counted)
@@ -102,3 +98,16 @@ one_written text members at member d counts flags body new inside is told count 
           ∙ ap (λ l. behind_text body (pieces_of text l)) (sym there)
           ∙ so_far.whole;
     }
+
+-- the same, where all flags are told before
+pub one_flagged : (text : List ℕ) (members : List Member) (at : ℕ) (member : Member) (d counts : Bool)
+    (flags : List Bool) (body new : List ℕ) → at < length members → member ≡ get_or members at member
+    → flags ≡ counting_flags members → counts ≡ get_or flags at d
+    → new ≡ with_counting text counts body member → Written text members at body
+    → Written text members (at + 1) new
+one_flagged text members at member d counts flags body new inside is told count adds so_far =
+    let next : suc at ≡ at + 1 = omega arith in
+    one_written text members at member counts body new inside is
+    (count ∙ ap (λ l. get_or l at d) told ∙ flag_at members at member d inside is
+    ∙ ap (λ k. not (list_any (is_named member.name) (drop k members))) next)
+    adds so_far

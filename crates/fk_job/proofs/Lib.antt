@@ -19,3 +19,5 @@ pub mod JobSpelled
 pub mod Seen
 pub mod Joined
 pub mod OneFault
+pub mod Sent
+pub mod PlainMoments

@@ -1,6 +1,6 @@
 -- The text that a worker is given for a job: what the producer sent, with what the server knows of
 -- it.
-use Rattle.std.specs.Prelude.{◌≡◌, ℕ, ◌≤◌, IfSome, List, [], ◌∷◌, ◌++◌, Option, None, Some, codes, map, if◌then◌else◌}
+use Rattle.std.specs.Prelude.{◌≡◌, ℕ, ◌-◌, ◌≤◌, length, slice_range, IfSome, List, [], ◌∷◌, ◌++◌, Option, None, Some, codes, map, if◌then◌else◌}
 use Rattle.std.specs.List.{join_with_byte}
 use Rattle.std.specs.Fmt.{decimal}
 use Rattle.std.specs.Str.{byte}
@@ -64,6 +64,14 @@ row_text job stamp =
 -- a name that is written as it is, between quotes
 abbrev pub IsPlainName : List ℕ → Type 0
 IsPlainName name = spelling name ≡ codes "\"" ++ name ++ codes "\""
+
+-- the name in what opens a member: between a comma and a quote, and a quote and a colon
+abbrev pub opened : List ℕ → List ℕ
+opened opening = slice_range opening 2 (length opening - 2)
+
+-- a comma, a name as it is spelled, and a colon
+abbrev pub IsOpening : List ℕ → Type 0
+IsOpening opening = opening ≡ codes "," ++ (spelling (opened opening) ++ codes ":")
 
 -- a failure whose moments can be written
 pub record HasFailureMoments (failure : Failure) : Type 0 where

@@ -1,5 +1,7 @@
 // Which members count: those that no later member of their name follows.
-ghost use Rattle.std.specs.Prelude.{◌≡◌, IfOk};
+ghost use Rattle.std.specs.Prelude.{◌≡◌, not, IfOk};
+ghost use Rattle.std.specs.List.{list_any};
+ghost use Rattle.fk_job.specs.Members.{is_named};
 ghost use Rattle.fk_job.specs.Pieces.{counting_flags};
 
 use fk_json::Member;
@@ -21,4 +23,17 @@ pub(crate) fn counting_flags(alloc: Global, members: &[Member]) -> Result<Vec<bo
     }
     flags.reverse();
     Ok(flags)
+}
+
+// Whether a member counts, which has these behind it.
+pub(crate) fn counts(member: &Member, later: &[Member]) -> bool
+    ensures { result ≡ not (list_any (is_named member.now.name) later.now) }
+{
+    let name = member.name.bytes();
+    for other in later {
+        if other.name.bytes() == name {
+            return false;
+        }
+    }
+    true
 }

@@ -3,7 +3,7 @@ ghost use Rattle.std.specs.Fmt.{decimal};
 ghost use Rattle.std.specs.Str.{byte};
 ghost use Rattle.fk_json.specs.String.{spelling};
 ghost use Rattle.fk_time.specs.Moments.{greatest, moment_text};
-ghost use Rattle.fk_job.specs.RowText.{HasFailureMoments, HasMoments, IsPlainName, failure_text, further, further_created, further_failure, further_moment, further_strings, row_text, written_member};
+ghost use Rattle.fk_job.specs.RowText.{HasFailureMoments, HasMoments, IsOpening, failure_text, further, further_created, further_failure, further_moment, further_strings, opened, row_text, written_member};
 
 use crate::{Failure, FailureParts, Job, Stamp};
 use fk_json::{Text, Texts, push_string};
@@ -25,9 +25,9 @@ pub fn write_job(alloc: Global, job: &Job, stamp: &Stamp) -> Result<Text, AllocE
 {
     let mut out = Text::with_room(alloc, row_room(job, stamp))?;
     push_body(&mut out, job)?;
-    push_text(&mut out, b"queue", &job.queue)?;
-    push_created(alloc, &mut out, job, stamp)?;
-    push_optional_moment(alloc, &mut out, b"enqueued_at", stamp.enqueued)?;
+    push_text(&mut out, b",\"queue\":", &job.queue)?;
+    push_created(&mut out, job, stamp)?;
+    push_optional_moment(&mut out, b",\"enqueued_at\":", stamp.enqueued)?;
     push_failure(alloc, &mut out, &stamp.failure)?;
     out.push_bytes(b"}")?;
     Ok(out)
@@ -62,63 +62,63 @@ fn push_body(out: &mut Text, job: &Job) -> Result<(), AllocError>
     out.push_bytes(job.body.bytes())
 }
 
-/// Adds a comma, a name and a colon.
-fn push_name(out: &mut Text, name: &[u8]) -> Result<(), AllocError>
-    requires { IsPlainName name.now }
-    ensures { OnOk result (out.new ≡ out.old ++ (codes "," ++ (spelling name.now ++ codes ":"))) }
+/// Adds a member with a string, behind what opens it.
+fn push_text(out: &mut Text, opening: &[u8], value: &Text) -> Result<(), AllocError>
+    requires { IsOpening opening.now }
+    ensures { OnOk result
+        (out.new ≡ out.old ++ further (opened opening.now) (spelling value.now)) }
 {
-    out.push_bytes(b",\"")?;
-    out.push_bytes(name)?;
-    out.push_bytes(b"\":")
-}
-
-/// Adds a member with a string.
-fn push_text(out: &mut Text, name: &[u8], value: &Text) -> Result<(), AllocError>
-    requires { IsPlainName name.now }
-    ensures { OnOk result (out.new ≡ out.old ++ further name.now (spelling value.now)) }
-{
-    push_name(out, name)?;
+    out.push_bytes(opening)?;
     push_string(out, value)
 }
 
 /// Adds a member with a moment.
-fn push_moment(alloc: Global, out: &mut Text, name: &[u8], moment: u64) -> Result<(), AllocError>
-    requires name { IsPlainName name.now }
+fn push_moment(out: &mut Text, opening: &[u8], moment: u64) -> Result<(), AllocError>
+    requires opening { IsOpening opening.now }
     requires moment { moment ≤ greatest }
-    ensures { OnOk result (out.new ≡ out.old ++ further name.now (spelling (moment_text moment))) }
+    ensures { OnOk result
+        (out.new ≡ out.old ++ further (opened opening.now) (spelling (moment_text moment))) }
 {
-    let text = Text::copy(alloc, &write_moment(moment))?;
-    push_text(out, name, &text)
+    out.push_bytes(opening)?;
+    out.push_bytes(&quoted(&write_moment(moment)))
+}
+
+/// The text of a moment between quotes.
+fn quoted(moment: &[u8; 24]) -> [u8; 26]
+    ensures { result ≡ codes "\"" ++ moment.now ++ codes "\"" }
+{
+    let mut quoted = [b'"'; 26];
+    quoted[1..25].copy_from_slice(moment);
+    quoted
 }
 
 /// Adds a member with a moment, if there is one.
 #[tactic(auto, unfolding(crate::specs::RowText::further_moment))]
 fn push_optional_moment(
-    alloc: Global,
     out: &mut Text,
-    name: &[u8],
+    opening: &[u8],
     moment: Option<u64>,
 ) -> Result<(), AllocError>
-    requires name { IsPlainName name.now }
+    requires opening { IsOpening opening.now }
     requires moment { IfSome moment (λ moment. moment ≤ greatest) }
-    ensures { OnOk result (out.new ≡ out.old ++ further_moment name.now moment) }
+    ensures { OnOk result (out.new ≡ out.old ++ further_moment (opened opening.now) moment) }
 {
     match moment {
         None => Ok(()),
-        Some(moment) => push_moment(alloc, out, name, moment),
+        Some(moment) => push_moment(out, opening, moment),
     }
 }
 
 /// Adds the moment at which the job was pushed, unless the producer sent a `created_at`.
 #[tactic(auto, unfolding(crate::specs::RowText::further_created))]
-fn push_created(alloc: Global, out: &mut Text, job: &Job, stamp: &Stamp) -> Result<(), AllocError>
+fn push_created(out: &mut Text, job: &Job, stamp: &Stamp) -> Result<(), AllocError>
     requires { stamp.now.created ≤ greatest }
     ensures { OnOk result (out.new ≡ out.old ++ further_created job.now stamp.now) }
 {
     if job.has_created {
         return Ok(());
     }
-    push_optional_moment(alloc, out, b"created_at", Some(stamp.created))
+    push_optional_moment(out, b",\"created_at\":", Some(stamp.created))
 }
 
 /// Adds the job's failure, if it has one.
@@ -139,12 +139,12 @@ fn push_failed(alloc: Global, out: &mut Text, failure: &FailureParts) -> Result<
     ensures { OnOk result
         (out.new ≡ out.old ++ further (codes "failure") (failure_text failure.now)) }
 {
-    push_name(out, b"failure")?;
+    out.push_bytes(b",\"failure\":")?;
     push_count(alloc, out, failure.count)?;
-    push_moment(alloc, out, b"failed_at", failure.failed)?;
-    push_optional_moment(alloc, out, b"next_at", failure.next)?;
-    push_text(out, b"errtype", &failure.errtype)?;
-    push_text(out, b"message", &failure.message)?;
+    push_moment(out, b",\"failed_at\":", failure.failed)?;
+    push_optional_moment(out, b",\"next_at\":", failure.next)?;
+    push_text(out, b",\"errtype\":", &failure.errtype)?;
+    push_text(out, b",\"message\":", &failure.message)?;
     push_backtrace(out, &failure.backtrace)?;
     out.push_bytes(b"}")
 }
@@ -165,7 +165,7 @@ fn push_backtrace(out: &mut Text, backtrace: &Texts) -> Result<(), AllocError>
     let Some((first, others)) = backtrace.as_slice().split_first() else {
         return Ok(());
     };
-    push_name(out, b"backtrace")?;
+    out.push_bytes(b",\"backtrace\":")?;
     out.push_bytes(b"[")?;
     push_string(out, first)?;
     push_others(out, others)?;

@@ -20,9 +20,9 @@ returns c =
     let others = c.in-Some.others.now in
     let whole : c.args.backtrace.now ≡ first ∷ others = sym c.as_slice.ensures ∙ c.in-Some.ensures.cases.0 in
     rw (whole, further_strings-cons (codes "backtrace") first others)
-    (array_ok c.push_bytes-2.result c.args.out.now c.push_name.new.out c.push_bytes.new.self c.push_string.new.out
-    c.push_others.new.out c.push_bytes-2.new.self
+    (array_ok c.push_bytes-3.result c.args.out.now c.push_bytes.new.self c.push_bytes-2.new.self c.push_string.new.out
+    c.push_others.new.out c.push_bytes-3.new.self
     (codes "," ++ (spelling (codes "backtrace") ++ codes ":")) (codes "[") (spelling first)
     (flat_map (λ text. byte "," ∷ spelling text) others) (codes "]")
-    c.in_ok-push_name.ensures c.in_ok-push_bytes.ensures.ok c.in_ok-push_string.ensures.ok c.in_ok-push_others.ensures
-    c.push_bytes-2.ensures.ok)
+    c.in_ok-push_bytes.ensures.ok c.in_ok-push_bytes-2.ensures.ok c.in_ok-push_string.ensures.ok c.in_ok-push_others.ensures
+    c.push_bytes-3.ensures.ok)

@@ -9,8 +9,8 @@ use Rattle.fk_job.proofs.writing.push_failed.Goals as goal
 pub returns : goal.returns
 unfolding further written_member failure_text
 returns c =
-    object_ok c.push_bytes.result c.args.out.now c.push_name.new.out c.push_count.new.out c.push_moment.new.out
-    c.push_optional_moment.new.out c.push_text.new.out c.push_text-2.new.out c.push_backtrace.new.out c.push_bytes.new.self
+    object_ok c.push_bytes-2.result c.args.out.now c.push_bytes.new.self c.push_count.new.out c.push_moment.new.out
+    c.push_optional_moment.new.out c.push_text.new.out c.push_text-2.new.out c.push_backtrace.new.out c.push_bytes-2.new.self
     (codes "," ++ (spelling (codes "failure") ++ codes ":"))
     (codes "{" ++ written_member (codes "retry_count") (decimal c.args.failure.now.count))
     (further (codes "failed_at") (spelling (moment_text c.args.failure.now.failed)))
@@ -19,5 +19,5 @@ returns c =
     (further (codes "message") (spelling c.args.failure.now.message))
     (further_strings (codes "backtrace") c.args.failure.now.backtrace)
     (codes "}")
-    c.in_ok-push_name.ensures c.in_ok-push_count.ensures c.in_ok-push_moment.ensures c.in_ok-push_optional_moment.ensures
-    c.in_ok-push_text.ensures c.in_ok-push_text-2.ensures c.in_ok-push_backtrace.ensures c.push_bytes.ensures.ok
+    c.in_ok-push_bytes.ensures.ok c.in_ok-push_count.ensures c.in_ok-push_moment.ensures c.in_ok-push_optional_moment.ensures
+    c.in_ok-push_text.ensures c.in_ok-push_text-2.ensures c.in_ok-push_backtrace.ensures c.push_bytes-2.ensures.ok

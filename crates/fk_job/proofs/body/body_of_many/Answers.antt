@@ -1,8 +1,8 @@
 use Rattle.std.proofs.Common.{ap, length, subst, sym, arith}
 use Rattle.std.proofs.lemmas.List.Elements.{All-from_recursion}
 use Rattle.fk_json.specs.Members.{IsMemberIn, inner_levels}
-use Rattle.fk_job.proofs.Joined.{as_many, none_written, one_written}
-use Rattle.fk_job.proofs.body.body_of.Goals as goal
+use Rattle.fk_job.proofs.Joined.{as_many, none_written, one_flagged}
+use Rattle.fk_job.proofs.body.body_of_many.Goals as goal
 
 pub members-init : goal.members-init
 members-init c = none_written c.args.text.now c.args.members.now _ c.in_ok-body.ensures
@@ -18,6 +18,6 @@ push_counting-requires c =
 
 pub members-preserved : goal.members-preserved
 members-preserved c =
-    one_written c.args.text.now c.args.members.now c.members.at c.index-members-at.result c.index.result.now c.index.result.now
+    one_flagged c.args.text.now c.args.members.now c.members.at c.index-members-at.result c.index.result.now c.index.result.now
     c.in_ok-flags.flags.items c.members.body c.push_counting.new.body (omega arith) c.index-members-at.is
     c.in_ok-flags.ensures c.index.ensures c.in_ok-push_counting.ensures c.members.invariant
