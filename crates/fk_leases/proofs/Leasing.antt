@@ -1,17 +1,17 @@
 -- A lease put where its ticket would stand, and one taken where it stands.
-use Rattle.std.proofs.Common.{◌≡◌, ◌≢◌, ◌↔◌, ◌==◌, ◌&&◌, ℕ, zero, suc, ◌<◌, Bool, true, false, not, List, []}
+use Rattle.std.proofs.Common.{◌≡◌, ◌≢◌, ◌==◌, ◌&&◌, ℕ, zero, suc, ◌<◌, Bool, true, false, not, List, []}
 use Rattle.std.proofs.Common.{◌∷◌, ◌++◌, Some, option_map, filter, take, drop, slice_get, refl, sym, ap}
 use Rattle.std.proofs.Common.{append-nil, ◌∙◌, arith}
-use Rattle.std.specs.Prelude.{Contains, IsTrue}
 use Rattle.std.specs.List.{AllByRecursion, insert}
 use Rattle.std.proofs.lemmas.List.{take-append-drop}
-use Rattle.std.proofs.lemmas.List.Elements.{recursion_from_All, All-from_recursion, All-contains, filter-append}
+use Rattle.std.proofs.lemmas.List.Elements.{recursion_from_All, filter-append}
 use Rattle.std.proofs.lemmas.Bool.Decides.{nat_tests}
 use Rattle.fk_json.specs.PairOrder.{comes_before, with_pair}
 use Rattle.fk_model.specs.Orders.{number_in}
 use Rattle.fk_lists.specs.Places.{IsGap, IsPlace}
-use Rattle.fk_lists.proofs.Rising.{AreAbove, AreBelow, all_join}
-use Rattle.fk_leases.specs.Leases.{leased_ticket, until_in, without_lease, IsAbsent}
+use Rattle.fk_lists.proofs.Apart.{weaker}
+use Rattle.fk_lists.proofs.Rising.{AreAbove, AreBelow}
+use Rattle.fk_leases.specs.Leases.{leased_ticket, until_in, IsAbsent}
 
 -- ---- what a filter keeps
 
@@ -24,11 +24,6 @@ pub kept_none : (test : ℕ × ℕ → Bool) (pairs : List (ℕ × ℕ))
     → AllByRecursion (λ pair. test pair ≡ false) pairs → filter test pairs ≡ []
 kept_none test [] all = refl
 kept_none test (pair ∷ pairs) all = rw (all.0) (kept_none test pairs all.1)
-
-pub weaker : (P Q : ℕ × ℕ → Type 0) → ((pair : ℕ × ℕ) → P pair → Q pair)
-    → (pairs : List (ℕ × ℕ)) → AllByRecursion P pairs → AllByRecursion Q pairs
-weaker P Q step [] all = tt
-weaker P Q step (pair ∷ pairs) all = (step pair all.0, weaker P Q step pairs all.1)
 
 -- ---- a lease put
 
@@ -83,35 +78,6 @@ stands_nowhere pairs ticket at absent place = stands pairs ticket at (recursion_
 
 -- ---- a lease taken
 
-absent_at_gap : (pairs : List (ℕ × ℕ)) (ticket at : ℕ) → IsGap pairs ticket at
-    → AllByRecursion (λ pair. leased_ticket pair ≢ ticket) pairs
-absent_at_gap pairs ticket at gap =
-    let below : AreBelow ticket (take at pairs) =
-    recursion_from_All (λ pair. number_in pair < ticket) (take at pairs) gap.below in
-    let above : AreAbove ticket (drop at pairs) =
-    recursion_from_All (λ pair. ticket < number_in pair) (drop at pairs) gap.above in
-    rw (← take-append-drop at pairs)
-    (all_join (λ pair. leased_ticket pair ≢ ticket) (take at pairs) (drop at pairs)
-    (weaker _ _ (λ pair less same. omega (arith, less, same)) (take at pairs) below)
-    (weaker _ _ (λ pair more same. omega (arith, more, same)) (drop at pairs) above))
-
 pub other_ticket : (ticket until : ℕ) (pair : ℕ × ℕ) → leased_ticket pair ≢ ticket
     → not ((leased_ticket pair == ticket) && (until_in pair == until)) ≡ true
 other_ticket ticket until pair differ = grind (arith, nat_tests, differ)
-
-without_absent : (pairs : List (ℕ × ℕ)) (ticket until : ℕ)
-    → AllByRecursion (λ pair. leased_ticket pair ≢ ticket) pairs → without_lease ticket until pairs ≡ pairs
-without_absent pairs ticket until absent =
-    kept_all _ pairs (weaker _ _ (other_ticket ticket until) pairs absent)
-
-pub gap_found : (pairs : List (ℕ × ℕ)) (ticket until at : ℕ) → IsGap pairs ticket at
-    → IsTrue false ↔ Contains pairs (ticket, until)
-gap_found pairs ticket until at gap = (
-  λ wrong. absurd (cc wrong),
-  λ held. absurd (All-contains (λ pair. leased_ticket pair ≢ ticket) pairs (ticket, until)
-      (All-from_recursion _ pairs (absent_at_gap pairs ticket at gap)) held refl),
-)
-
-pub gap_left : (pairs : List (ℕ × ℕ)) (ticket until at : ℕ) → IsGap pairs ticket at
-    → pairs ≡ without_lease ticket until pairs
-gap_left pairs ticket until at gap = sym (without_absent pairs ticket until (absent_at_gap pairs ticket at gap))

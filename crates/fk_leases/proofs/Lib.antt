@@ -1,4 +1,3 @@
-pub mod Beyond
 pub mod Leasing
 pub mod Standing
 pub mod Alike

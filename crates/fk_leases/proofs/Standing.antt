@@ -1,29 +1,21 @@
 -- Where a ticket stands among leases in order of ticket, there and nowhere else stands its lease.
-use Rattle.std.proofs.Common.{◌≡◌, ◌≢◌, ◌↔◌, ◌==◌, ◌&&◌, ℕ, zero, suc, ◌<◌, Bool, true, false, not, List, []}
-use Rattle.std.proofs.Common.{◌∷◌, Some, option_map, length, map, slice_get, get_or, refl, sym, ap, ◌∙◌, arith}
-use Rattle.std.specs.Prelude.{Contains, IsTrue, IsFalse}
+use Rattle.std.proofs.Common.{◌≡◌, ◌≢◌, ◌↔◌, ◌==◌, ◌&&◌, ◌∙◌, ℕ, zero, suc, ◌<◌, true, false, not, List, [], ◌∷◌}
+use Rattle.std.proofs.Common.{Some, option_map, map, slice_get, refl, sym, ap, arith}
+use Rattle.std.specs.Prelude.{All, Contains, IsTrue}
 use Rattle.std.specs.List.{AllByRecursion, remove}
 use Rattle.std.specs.List.Sorted.{IsStrictlyIncreasing}
 use Rattle.std.proofs.lemmas.Bool.Decides.{nat_tests}
-use Rattle.std.proofs.lemmas.List.Elements.{All-from_recursion, All-contains}
+use Rattle.std.proofs.lemmas.List.Elements.{recursion_from_All, All-contains}
 use Rattle.fk_model.specs.Orders.{number_in}
 use Rattle.fk_lists.specs.Places.{IsPlace}
+use Rattle.fk_lists.proofs.Apart.{above_at, weaker}
 use Rattle.fk_lists.proofs.Rising.{AreAbove, AreRising, rising_from}
 use Rattle.fk_leases.specs.Leases.{leased_ticket, until_in, without_lease}
-use Rattle.fk_leases.proofs.Leasing.{kept_all, weaker, other_ticket}
+use Rattle.fk_leases.proofs.Leasing.{kept_all, other_ticket}
 
 -- the lease at a place runs until this moment
-abbrev pub RunsUntil : List (ℕ × ℕ) → ℕ → ℕ → Type 0
+abbrev RunsUntil : List (ℕ × ℕ) → ℕ → ℕ → Type 0
 RunsUntil pairs at until = option_map until_in (slice_get pairs at) ≡ Some until
-
--- a ticket behind another is above it
-above_at : (number ticket : ℕ) (pairs : List (ℕ × ℕ)) (at : ℕ)
-    → AreAbove number pairs → IsPlace pairs ticket at → number < ticket
-above_at number ticket [] zero above place = absurd (cc place)
-above_at number ticket [] (suc at) above place = absurd (cc place)
-above_at number ticket (pair ∷ pairs) zero above place =
-    let same : number_in pair ≡ ticket = cc place in omega (arith, above.0, same)
-above_at number ticket (pair ∷ pairs) (suc at) above place = above_at number ticket pairs at above.1 place
 
 -- ---- whether the lease is there
 
@@ -40,29 +32,20 @@ held_at_place (pair ∷ pairs) ticket until (suc at) place runs =
     let held = held_at_place pairs ticket until at place runs in
     (suc held.0, omega (arith, held.1), held.2)
 
-place_of_held : (pairs : List (ℕ × ℕ)) (ticket until at k : ℕ) → AreRising pairs → IsPlace pairs ticket at
-    → k < length pairs → get_or pairs k (ticket, until) ≡ (ticket, until) → RunsUntil pairs at until
-place_of_held [] ticket until at k rising place within held = absurd (omega (arith, within))
-place_of_held (pair ∷ pairs) ticket until zero zero rising place within held = cc held
-place_of_held (pair ∷ pairs) ticket until (suc at) zero rising place within held =
-    let same : number_in pair ≡ ticket = ap number_in held in
-    absurd (omega (arith, above_at (number_in pair) ticket pairs at rising.0 place, same))
-place_of_held (pair ∷ pairs) ticket until zero (suc k) rising place within held =
-    let same : number_in pair ≡ ticket = cc place in
-    let all = All-from_recursion (λ other. number_in pair < number_in other) pairs rising.0 in
-    let more : number_in pair < ticket =
-    All-contains (λ other. number_in pair < number_in other) pairs (ticket, until) all
-    (k, omega (arith, within), held) in
-    absurd (omega (arith, more, same))
-place_of_held (pair ∷ pairs) ticket until (suc at) (suc k) rising place within held =
-    place_of_held pairs ticket until at k rising.1 place (omega (arith, within)) held
+-- it was taken
+pub taken_found : (pairs : List (ℕ × ℕ)) (ticket until at : ℕ) → slice_get pairs at ≡ Some (ticket, until)
+    → IsTrue true ↔ Contains pairs (ticket, until)
+taken_found pairs ticket until at stands = (
+  λ found. held_at_place pairs ticket until at (ap (option_map number_in) stands) (ap (option_map until_in) stands),
+  λ held. refl,
+)
 
-pub place_found : (pairs : List (ℕ × ℕ)) (ticket until at : ℕ) (there : Bool)
-    → IsStrictlyIncreasing (map leased_ticket pairs) → IsPlace pairs ticket at
-    → (IsTrue there ↔ RunsUntil pairs at until) → IsTrue there ↔ Contains pairs (ticket, until)
-place_found pairs ticket until at there increasing place is = (
-  λ found. held_at_place pairs ticket until at place (is.0 found),
-  λ held. is.1 (place_of_held pairs ticket until at held.0 (rising_from pairs increasing) place held.1 held.2),
+-- it isn't there
+pub absent_found : (pairs : List (ℕ × ℕ)) (ticket until : ℕ) → All (λ lease. lease ≢ (ticket, until)) pairs
+    → IsTrue false ↔ Contains pairs (ticket, until)
+absent_found pairs ticket until absent = (
+  λ wrong. absurd (cc wrong),
+  λ held. absurd (All-contains (λ lease. lease ≢ (ticket, until)) pairs (ticket, until) absent held refl),
 )
 
 -- ---- what is left
@@ -82,9 +65,12 @@ first_goes : (ticket until : ℕ) (pair : ℕ × ℕ) → number_in pair ≡ tic
     → not ((leased_ticket pair == ticket) && (until_in pair == until)) ≡ false
 first_goes ticket until pair one other = grind (arith, nat_tests, one, other)
 
-first_stays : (ticket until : ℕ) (pair : ℕ × ℕ) → until_in pair ≢ until
+other_lease : (ticket until : ℕ) (pair : ℕ × ℕ) → pair ≢ (ticket, until)
     → not ((leased_ticket pair == ticket) && (until_in pair == until)) ≡ true
-first_stays ticket until pair differ = grind (arith, nat_tests, differ)
+other_lease ticket until pair differ =
+    let apart = λ (one : leased_ticket pair ≡ ticket) (other : until_in pair ≡ until).
+    differ (lease_is pair ticket until one other) in
+    grind (arith, nat_tests, apart)
 
 taken_at : (pairs : List (ℕ × ℕ)) (ticket until at : ℕ) → AreRising pairs → IsPlace pairs ticket at
     → RunsUntil pairs at until → without_lease ticket until pairs ≡ remove pairs at
@@ -99,27 +85,17 @@ taken_at (pair ∷ pairs) ticket until (suc at) rising place runs =
       taken_at pairs ticket until at rising.1 place runs,
     ) refl
 
-left_at : (pairs : List (ℕ × ℕ)) (ticket until at : ℕ) → AreRising pairs → IsPlace pairs ticket at
-    → (RunsUntil pairs at until → ⊥) → without_lease ticket until pairs ≡ pairs
-left_at [] ticket until at rising place runs = refl
-left_at (pair ∷ pairs) ticket until zero rising place runs =
-    rw (
-      first_stays ticket until pair (λ same. runs (ap Some same)),
-      rest_stays pair pairs ticket until (cc place) rising.0,
-    ) refl
-left_at (pair ∷ pairs) ticket until (suc at) rising place runs =
-    let less : number_in pair < ticket = above_at (number_in pair) ticket pairs at rising.0 place in
-    rw (
-      other_ticket ticket until pair (λ same. omega (arith, less, same)),
-      left_at pairs ticket until at rising.1 place runs,
-    ) refl
+-- it was taken
+pub taken_left : (pairs after : List (ℕ × ℕ)) (ticket until at : ℕ) → IsStrictlyIncreasing (map leased_ticket pairs)
+    → slice_get pairs at ≡ Some (ticket, until) → after ≡ remove pairs at → after ≡ without_lease ticket until pairs
+taken_left pairs after ticket until at increasing stands taken =
+    taken
+    ∙ sym (taken_at pairs ticket until at (rising_from pairs increasing) (ap (option_map number_in) stands)
+    (ap (option_map until_in) stands))
 
-pub place_left : (pairs after : List (ℕ × ℕ)) (ticket until at : ℕ) (there : Bool)
-    → IsStrictlyIncreasing (map leased_ticket pairs) → IsPlace pairs ticket at
-    → (IsTrue there ↔ RunsUntil pairs at until) → (IsTrue there → after ≡ remove pairs at)
-    → (IsFalse there → after ≡ pairs) → after ≡ without_lease ticket until pairs
-place_left pairs after ticket until at true increasing place is taken left =
-    taken refl ∙ sym (taken_at pairs ticket until at (rising_from pairs increasing) place (is.0 refl))
-place_left pairs after ticket until at false increasing place is taken left =
-    left refl
-    ∙ sym (left_at pairs ticket until at (rising_from pairs increasing) place (λ runs. absurd (cc (is.1 runs))))
+-- it isn't there
+pub absent_left : (pairs after : List (ℕ × ℕ)) (ticket until : ℕ) → All (λ lease. lease ≢ (ticket, until)) pairs
+    → after ≡ pairs → after ≡ without_lease ticket until pairs
+absent_left pairs after ticket until absent same =
+    same
+    ∙ sym (kept_all _ pairs (weaker _ _ (other_lease ticket until) pairs (recursion_from_All _ pairs absent)))

@@ -1,8 +1,7 @@
-ghost use Rattle.std.specs.Prelude.{◌≡◌, ◌↔◌, ◌++◌, ◌^◌, ◌-◌, ◌+◌, ◌<◌, find, length, min, nat_lt, option_and_then, option_map, slice_get, Contains, IsFalse, IsTrue, OnErr, OnOk, Some};
-ghost use Rattle.std.specs.List.{remove};
+ghost use Rattle.std.specs.Prelude.{◌≡◌, ◌↔◌, ◌++◌, ◌^◌, ◌-◌, ◌+◌, ◌<◌, find, length, min, nat_lt, option_map, slice_get, Contains, IsTrue, OnErr, OnOk};
 ghost use Rattle.fk_json.specs.PairOrder.{with_pair};
 ghost use Rattle.fk_lists.specs.Room.{all_pairs, list_at, no_lists, spare_at, AreNamed, IsLean, OthersStay};
-ghost use Rattle.fk_leases.specs.Leases.{first_until, leased_ticket, until_in, run_out, ticket_beyond, without_lease, AreByTicket, IsUnleased};
+ghost use Rattle.fk_leases.specs.Leases.{first_until, leased_ticket, until_in, run_out, without_lease, AreByTicket, IsUnleased};
 
 use crate::ends::{enter, first_moment, leases_of, leave};
 use fk_json::{Pairs, Text};
@@ -62,14 +61,11 @@ impl Leases {
         ensures others { OthersStay jid.now self.old self.new }
         ensures spare { spare_at self.new.spares jid.now + 1 ≡ spare_at self.old.spares jid.now }
     {
-        match self.lists.place_of(jid, ticket) {
-            Ok(_) => (),
-            Err(at) => {
-                self.lists.insert(jid, at, (ticket, until));
-                self.room -= 1;
-                enter(&mut self.ends, until, ticket);
-            }
-        }
+        let Ok(_) = self.lists.put(jid, (ticket, until)) else {
+            unreachable!()
+        };
+        self.room -= 1;
+        enter(&mut self.ends, until, ticket);
     }
 
     /// The least ticket that has a lease under this jid.
@@ -90,22 +86,9 @@ impl Leases {
             (find (λ lease. nat_lt moment (until_in lease)) (list_at self.now.items jid.now)) }
         ensures order { AreByTicket self.now.items }
     {
-        'looking: for at in 0..self.lists.len(jid) {
-            if let Some(ticket) = self.ticket_beyond(jid, at, moment) {
-                return Some(ticket);
-            }
-        }
-        None
-    }
-
-    // The ticket of the lease at a place, if it runs beyond a moment.
-    fn ticket_beyond(&self, jid: &Text, at: usize, moment: u64) -> Option<u64>
-        ensures { result ≡ option_and_then (ticket_beyond moment)
-            (slice_get (list_at self.now.items jid.now) at) }
-    {
-        match self.lists.get(jid, at) {
-            Some((ticket, until)) if moment < until => Some(ticket),
-            _ => None,
+        match self.lists.first_above(jid, moment) {
+            Some((ticket, _)) => Some(ticket),
+            None => None,
         }
     }
 
@@ -120,32 +103,12 @@ impl Leases {
         ensures kept { spare_at self.new.spares jid.now ≡ spare_at self.old.spares jid.now }
         ensures lean { IsTrue result → IsLean self.new }
     {
-        match self.lists.place_of(jid, ticket) {
-            Err(_) => false,
-            Ok(at) => self.take_at(jid, at, until),
-        }
-    }
-
-    // Takes the lease at a place out, if it runs until this moment.
-    fn take_at(&mut self, jid: &Text, at: usize, until: u64) -> bool
-        ensures found { IsTrue result
-            ↔ (option_map until_in (slice_get (list_at self.old.items jid.now) at)
-            ≡ Some until) }
-        ensures taken { IsTrue result → list_at self.new.items jid.now
-            ≡ remove (list_at self.old.items jid.now) at }
-        ensures left { IsFalse result → list_at self.new.items jid.now
-            ≡ list_at self.old.items jid.now }
-        ensures others { OthersStay jid.now self.old self.new }
-        ensures kept { spare_at self.new.spares jid.now ≡ spare_at self.old.spares jid.now }
-        ensures lean { IsTrue result → IsLean self.new }
-    {
-        match self.lists.get(jid, at) {
-            Some((ticket, ends)) if ends == until => {
-                let _ = self.lists.remove(jid, at);
+        match self.lists.take(jid, (ticket, until)) {
+            Some(_) => {
                 leave(&mut self.ends, until, ticket);
                 true
             }
-            _ => false,
+            None => false,
         }
     }
 
@@ -176,25 +139,5 @@ impl Leases {
         ensures named { AreNamed self.now.items }
     {
         self.ends.count()
-    }
-}
-
-#[cfg(test)]
-mod tests {
-    use super::*;
-    use fk_lists::RoomByName;
-    use std::test::Fail;
-
-    // No program asks for this list.
-    #[test]
-    fn the_leases_that_are_due_are_listed(rt: HostRuntime) -> Result<(), Fail> {
-        let jid = Text::fixed(rt.alloc(), b"abcdefgh");
-        let mut leases = Leases::new(rt.alloc());
-        leases.reserve(&jid, 1)?;
-        leases.put(&jid, 5, 900);
-        let mut pairs = Pairs::new(rt.alloc());
-        leases.due(900, &mut pairs)?;
-        assert_eq!(rt; (pairs.len(), pairs.get(0)), (1, Some(&(5, 900))));
-        Ok(())
     }
 }

@@ -19,15 +19,16 @@ impl RoomByName for Leases {
     }
 
     fn mark(&mut self, jid: &Text) -> Result<(), AllocError> {
-        let marked = self.lists.marked(jid);
-        if marked < self.lists.spare(jid) {
-            return self.lists.mark(jid);
-        }
-        let Some(marks) = marked.checked_add(1) else {
+        let Some(lack) = self.lists.lack(jid) else {
             return Err(AllocError);
         };
-        self.reserve(jid, marks)?;
-        self.lists.mark(jid)
+        let Some(room) = self.room.checked_add(lack) else {
+            return Err(AllocError);
+        };
+        self.ends.reserve(room)?;
+        self.lists.mark(jid)?;
+        self.room = room;
+        Ok(())
     }
 
     fn unmark(&mut self, jid: &Text) {

@@ -1,5 +1,6 @@
 -- No name is held for nothing, also after the list of one name was put, changed or taken out.
-use Rattle.std.proofs.Common.{◌≡◌, ◌∙◌, ◌≢◌, ◌<◌, ◌≤◌, ◌↔◌, ℕ, Bool, true, false, List, [], length, get_or, Option, None, Some, refl, sym, ap, subst, arith}
+use Rattle.std.proofs.Common.{◌≡◌, ◌∙◌, ◌≢◌, ◌<◌, ◌≤◌, ◌↔◌, ℕ, Bool, true, false, List, [], ◌∷◌, ◌++◌, length, length-append, get_or, Option, None, Some, refl, sym, ap, subst, arith}
+use Rattle.std.proofs.Common.{Result, Ok, Err, IfOk, OnErr}
 use Rattle.std.specs.Prelude.{cond, All, IfSome, IsTrue}
 use Rattle.std.specs.Cmp.Lexicographic.{nat_list_eq_equiv}
 use Rattle.std.specs.List.{insert}
@@ -8,6 +9,8 @@ use Rattle.std.proofs.lemmas.List.Edits.{length-insert}
 use Rattle.std.proofs.lemmas.List.Elements.{All-map}
 use Rattle.std.proofs.lemmas.Map.Entries.{lookup_from_place, All-lookup}
 use Rattle.std.proofs.lemmas.Option.{slice_get-get_or}
+use Rattle.fk_model.specs.Orders.{number_in}
+use Rattle.fk_lists.specs.Places.{IsGap}
 use Rattle.fk_lists.specs.Room.{list_at, spare_at, IsLean}
 use Rattle.fk_lists.specs.PairLists.{PairList, items_of, list_under, spares_of, AreByName, AreInUse, IsIdle, IsSound, IsUsed}
 use Rattle.fk_lists.proofs.Lookups.{Entries, is_named, list_on, room_on, same_test, distinct, listed, spared}
@@ -69,6 +72,20 @@ pub used_after_insert : (pairs : List (ℕ × ℕ)) (at : ℕ) (pair : ℕ × �
 used_after_insert pairs at pair after within put empty =
     let count : length (insert pairs at pair) ≡ 0 = ap length (sym put ∙ empty) in
     absurd (omega (arith, length-insert pairs at pair within, count))
+
+pub used_after_push : (pairs : List (ℕ × ℕ)) (pair : ℕ × ℕ) (after : PairList) → after.items ≡ pairs ++ pair ∷ []
+    → IsUsed after
+used_after_push pairs pair after put empty =
+    let count : length (pairs ++ pair ∷ []) ≡ 0 = ap length (sym put ∙ empty) in
+    absurd (omega (arith, length-append pairs (pair ∷ []), count))
+
+-- a list with one pair more, or as it was
+pub used_after_put : (before after : PairList) (pair : ℕ × ℕ) (result : Result ℕ ℕ)
+    → IfOk result (λ at. IsGap before.items (number_in pair) at)
+    → IfOk result (λ at. after.items ≡ insert before.items at pair) → OnErr result (after ≡ before) → IsUsed before
+    → IsUsed after
+used_after_put before after pair (Ok at) gap put same used = used_after_insert before.items at pair after gap.within put
+used_after_put before after pair (Err at) gap put same used = subst IsUsed (sym same) used
 
 -- the others, where all are in use
 pub other_lists : (name : List ℕ) (entries : Entries) → AreInUse entries

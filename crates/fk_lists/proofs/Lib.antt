@@ -9,3 +9,4 @@ pub mod Unseen
 pub mod Searched
 pub mod Cleared
 pub mod Sorted
+pub mod Apart

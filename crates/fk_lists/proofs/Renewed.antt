@@ -1,10 +1,9 @@
 -- What holds of each name's list holds again after the list of one name changed.
-use Rattle.std.proofs.Common.{◌≡◌, ◌≢◌, ℕ, ◌<◌, Bool, true, false, List, [], map, length, sym, subst, refl, arith}
+use Rattle.std.proofs.Common.{◌≡◌, ◌≢◌, ℕ, ◌<◌, Bool, true, false, List, [], ◌∷◌, ◌++◌, drop, map, sym, subst, refl, arith}
 use Rattle.std.specs.Bool.{Decides}
 use Rattle.std.specs.Prelude.{All, bytes_eq}
 use Rattle.std.specs.List.{insert, remove}
 use Rattle.std.specs.List.Sorted.{IsStrictlyIncreasing}
-use Rattle.std.proofs.lemmas.List.Edits.{insert_end}
 use Rattle.std.proofs.lemmas.Slice.Eq.{bytes_eq-Decides}
 use Rattle.fk_model.specs.Orders.{number_in}
 use Rattle.fk_lists.specs.Room.{Named, list_at}
@@ -53,11 +52,10 @@ still_rising name list before after rising increasing changed =
 -- by one pair more behind all
 pub rising_with_last : (name : List ℕ) (pair : ℕ × ℕ) (before after : Named) → AreRisingAll before
     → All (λ other. number_in other < number_in pair) (list_at before name)
-    → Changed name (insert (list_at before name) (length (list_at before name)) pair) before after → AreRisingAll after
+    → Changed name (list_at before name ++ pair ∷ []) before after → AreRisingAll after
 rising_with_last name pair before after rising last changed =
     let held = list_at before name in
-    still_rising name (insert held (length held) pair) before after rising
-    (rw insert_end (last_increasing held pair (rising name) last)) changed
+    still_rising name (held ++ pair ∷ []) before after rising (last_increasing held pair (rising name) last) changed
 
 -- by one pair more at a gap
 pub rising_with : (name : List ℕ) (pair : ℕ × ℕ) (at : ℕ) (before after : Named) → AreRisingAll before
@@ -73,6 +71,16 @@ pub rising_without : (name : List ℕ) (at : ℕ) (before after : Named) → Are
 rising_without name at before after rising changed =
     still_rising name (remove (list_at before name) at) before after rising
     (less_increasing (list_at before name) at (rising name)) changed
+
+-- without the first pair
+pub rising_without_first : (name : List ℕ) (before after : Named) → AreRisingAll before
+    → Changed name (drop 1 (list_at before name)) before after → AreRisingAll after
+rising_without_first name before after rising changed =
+    still_rising name (drop 1 (list_at before name)) before after rising
+    (rw (← remove_first) (less_increasing (list_at before name) 0 (rising name))) changed
+  where
+    remove_first : remove (list_at before name) 0 ≡ drop 1 (list_at before name)
+    remove_first = refl
 
 pub rising_none : (items : Named) → items ≡ [] → AreRisingAll items
 rising_none items none =

@@ -57,6 +57,18 @@ module _ (name : List ℕ) (put : Option PairList) (before after : Entries) (put
   pub others_held : (other : List ℕ) → other ≢ name → list_under after other ≡ list_under before other
   others_held other differ = puts other ∙ ap (λ here. cond here put (list_under before other)) (apart name other differ)
 
+  held_here : list_under after name ≡ put
+  held_here =
+      puts name
+      ∙ ap (λ here. cond here put (list_under before name))
+      (is_eq-slice_cmp name name ∙ (bytes_eq-Decides name name).1 refl)
+
+  pub room_here : spare_at (spares_of after) name ≡ room_on put
+  room_here = spared after name ∙ ap room_on held_here
+
+  pub mark_here : mark_at (marks_of after) name ≡ mark_on put
+  mark_here = marked after name ∙ ap mark_on held_here
+
   pub lists_stay : AreByName before → AreByName after → list_on put ≡ list_at (items_of before) name
       → (other : List ℕ) → list_at (items_of after) other ≡ list_at (items_of before) other
   lists_stay was is same other =

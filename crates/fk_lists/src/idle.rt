@@ -7,8 +7,9 @@ use crate::pair_list::PairList;
 use fk_json::Text;
 use std::collections::BTreeMap;
 
-/// Forgets a name that has neither a pair nor room.
-pub(crate) fn forget_idle(held: &mut BTreeMap<Text, PairList>, name: &Text)
+/// Forgets a name, if it is idle: if it has neither a pair nor room.
+pub(crate) fn forget_idle(held: &mut BTreeMap<Text, PairList>, name: &Text, idle: bool)
+    requires idle { IsTrue idle ↔ IsIdle (list_under held.old.entries name.now) }
     requires order { AreByName held.old.entries }
     requires others { (other : List ℕ) → other ≢ name.now
         → IfSome (list_under held.old.entries other) IsUsed }
@@ -18,17 +19,7 @@ pub(crate) fn forget_idle(held: &mut BTreeMap<Text, PairList>, name: &Text)
         ≡ spare_at (spares_of held.old.entries) other }
     ensures sound { IsSound held.new.entries }
 {
-    if is_idle(held, name) {
+    if idle {
         let _ = held.remove(name);
-    }
-}
-
-// Whether a name has neither a pair nor room.
-fn is_idle(held: &BTreeMap<Text, PairList>, name: &Text) -> bool
-    ensures { IsTrue result ↔ IsIdle (list_under held.now.entries name.now) }
-{
-    match held.get(name) {
-        Some(list) => list.is_idle(),
-        None => true,
     }
 }

@@ -1,7 +1,7 @@
-ghost use Rattle.std.specs.Prelude.{◌≡◌, ◌≢◌, ◌+◌, ◌<◌, ◌≤◌, ℕ, List, [], length, map, slice_get, IfErr, IfOk, IsOk, OnErr, OnOk};
+ghost use Rattle.std.specs.Prelude.{◌≡◌, ◌≢◌, ◌++◌, ◌∷◌, ◌+◌, ◌-◌, ◌<◌, ◌≤◌, ℕ, List, [], Some, drop, find, length, map, nat_lt, slice_get, All, IfErr, IfOk, IfNone, IfSome, IsOk, OnErr, OnOk};
 ghost use Rattle.std.specs.List.{insert, remove};
 ghost use Rattle.std.specs.List.Sorted.{IsStrictlyIncreasing};
-ghost use Rattle.fk_model.specs.Orders.{number_in};
+ghost use Rattle.fk_model.specs.Orders.{number_in, ticket_in};
 ghost use Rattle.fk_lists.specs.Room.{list_at, no_lists, mark_at, spare_at, AreNamed, IsLean, OthersStay};
 ghost use Rattle.fk_lists.specs.Places.{IsGap, IsPlace};
 
@@ -75,13 +75,40 @@ impl Lists {
         }
     }
 
-    /// Puts a pair into the list of a name, at a place counted from 0.
+    /// Makes room for one pair of a name that has no list, and marks it.
+    #[tactic(auto, using(crate::proofs::Lookups::listed, crate::proofs::Lookups::spared))]
+    pub(crate) fn add_marked(&mut self, name: &Text) -> Result<(), AllocError>
+        requires empty { list_at self.old.items name.now ≡ [] }
+        requires bare { spare_at self.old.spares name.now ≡ 0 }
+        ensures ok { OnOk result (mark_at self.new.marks name.now ≡ mark_at self.old.marks name.now + 1) }
+        ensures err { OnErr result (mark_at self.new.marks name.now ≡ mark_at self.old.marks name.now) }
+        ensures spare { OnErr result
+            (spare_at self.new.spares name.now ≡ spare_at self.old.spares name.now) }
+        ensures within { OnOk result
+            (mark_at self.new.marks name.now ≤ spare_at self.new.spares name.now) }
+        ensures marks { (other : List ℕ) → other ≢ name.now
+            → mark_at self.new.marks other ≡ mark_at self.old.marks other }
+        ensures kept { (other : List ℕ)
+            → spare_at self.old.spares other ≤ spare_at self.new.spares other }
+        ensures bound { spare_at self.new.spares name.now ≤ 1 }
+        ensures rooms { (other : List ℕ) → other ≢ name.now
+            → spare_at self.new.spares other ≡ spare_at self.old.spares other }
+        ensures same { self.new.items ≡ self.old.items }
+    {
+        let mut list = PairList::new(self.alloc);
+        list.mark()?;
+        match self.held.insert(name.copied()?, list) {
+            Ok(_) => Ok(()),
+            Err(_) => Err(AllocError),
+        }
+    }
+
+    /// Puts a pair behind all others of a name.
     #[tactic(auto, using(crate::proofs::Lookups::listed, crate::proofs::Lookups::spared, crate::proofs::NamesInOrder::are_named))]
-    pub fn insert(&mut self, name: &Text, at: usize, pair: (u64, u64))
+    pub fn push(&mut self, name: &Text, pair: (u64, u64))
         requires room { 0 < spare_at self.old.spares name.now }
-        requires within { at ≤ length (list_at self.old.items name.now) }
         ensures here { list_at self.new.items name.now
-            ≡ insert (list_at self.old.items name.now) at pair }
+            ≡ list_at self.old.items name.now ++ pair ∷ [] }
         ensures others { OthersStay name.now self.old self.new }
         ensures spare { spare_at self.new.spares name.now + 1
             ≡ spare_at self.old.spares name.now }
@@ -90,16 +117,42 @@ impl Lists {
         let Some(list) = self.held.get_mut(name) else {
             return;
         };
-        list.insert(at, pair);
+        list.push(pair);
     }
 
-    /// Takes the pair at a place of a name's list out, if there is one. The rooms stay. A name that
-    /// has neither a pair nor room is forgotten.
+    /// Puts a pair by its first number into the list of a name that is in order of first numbers, and
+    /// gives the place where it is, counted from 0; or leaves the list as it is, and gives the place of
+    /// a pair with the same first number.
     #[tactic(auto, using(crate::proofs::Lookups::listed, crate::proofs::Lookups::spared, crate::proofs::NamesInOrder::are_named))]
-    pub fn remove(&mut self, name: &Text, at: usize) -> Option<(u64, u64)>
-        ensures value { result ≡ slice_get (list_at self.old.items name.now) at }
-        ensures here { list_at self.new.items name.now
-            ≡ remove (list_at self.old.items name.now) at }
+    pub fn put(&mut self, name: &Text, pair: (u64, u64)) -> Result<usize, usize>
+        requires room { 0 < spare_at self.old.spares name.now }
+        requires order { IsStrictlyIncreasing (map number_in (list_at self.old.items name.now)) }
+        ensures gap { IfOk result (λ at. IsGap (list_at self.old.items name.now) (number_in pair) at) }
+        ensures here { IfOk result (λ at. list_at self.new.items name.now
+            ≡ insert (list_at self.old.items name.now) at pair) }
+        ensures spare { OnOk result (spare_at self.new.spares name.now + 1
+            ≡ spare_at self.old.spares name.now) }
+        ensures taken { IfErr result
+            (λ at. IsPlace (list_at self.old.items name.now) (number_in pair) at) }
+        ensures same { OnErr result (list_at self.new.items name.now
+            ≡ list_at self.old.items name.now) }
+        ensures kept { OnErr result (spare_at self.new.spares name.now
+            ≡ spare_at self.old.spares name.now) }
+        ensures others { OthersStay name.now self.old self.new }
+        ensures named { AreNamed self.new.items }
+    {
+        let Some(list) = self.held.get_mut(name) else {
+            return Err(0);
+        };
+        list.put(pair)
+    }
+
+    /// Takes the first pair of a name out, if there is one. The rooms stay. A name that has neither a
+    /// pair nor room is forgotten.
+    #[tactic(auto, using(crate::proofs::Lookups::listed, crate::proofs::Lookups::spared, crate::proofs::NamesInOrder::are_named))]
+    pub fn take_first(&mut self, name: &Text) -> Option<(u64, u64)>
+        ensures value { result ≡ slice_get (list_at self.old.items name.now) 0 }
+        ensures here { list_at self.new.items name.now ≡ drop 1 (list_at self.old.items name.now) }
         ensures others { OthersStay name.now self.old self.new }
         ensures kept { spare_at self.new.spares name.now ≡ spare_at self.old.spares name.now }
         ensures lean { IsLean self.new }
@@ -108,9 +161,39 @@ impl Lists {
         let Some(list) = self.held.get_mut(name) else {
             return None;
         };
-        let taken = list.remove(at);
-        forget_idle(&mut self.held, name);
+        let taken = list.take_first();
+        let idle = list.is_idle();
+        forget_idle(&mut self.held, name, idle);
         taken
+    }
+
+    /// Takes a pair out of the list of a name that is in order of first numbers, and gives the place
+    /// where it was, counted from 0, if it is there. The rooms stay. A name that has neither a pair nor
+    /// room is forgotten.
+    #[tactic(auto, using(crate::proofs::Lookups::listed, crate::proofs::Lookups::spared, crate::proofs::NamesInOrder::are_named))]
+    pub fn take(&mut self, name: &Text, pair: (u64, u64)) -> Option<usize>
+        requires order { IsStrictlyIncreasing (map number_in (list_at self.old.items name.now)) }
+        ensures taken { IfSome result
+            (λ at. slice_get (list_at self.old.items name.now) at ≡ Some pair) }
+        ensures here { IfSome result (λ at. list_at self.new.items name.now
+            ≡ remove (list_at self.old.items name.now) at) }
+        ensures absent { IfNone result
+            (All (λ other. other ≢ pair) (list_at self.old.items name.now)) }
+        ensures same { IfNone result (self.new.items ≡ self.old.items) }
+        ensures others { OthersStay name.now self.old self.new }
+        ensures kept { spare_at self.new.spares name.now ≡ spare_at self.old.spares name.now }
+        ensures lean { IsLean self.new }
+        ensures named { AreNamed self.new.items }
+    {
+        let Some(list) = self.held.get_mut(name) else {
+            return None;
+        };
+        let Some(place) = list.take(pair) else {
+            return None;
+        };
+        let idle = list.is_idle();
+        forget_idle(&mut self.held, name, idle);
+        Some(place)
     }
 
     /// The pair at a place of a name's list, counted from 0, or `None` past its end.
@@ -120,6 +203,30 @@ impl Lists {
     {
         match self.held.get(name) {
             Some(list) => list.get(at),
+            None => None,
+        }
+    }
+
+    /// The last pair of a name's list.
+    #[tactic(auto, using(crate::proofs::Lookups::listed))]
+    pub fn last(&self, name: &Text) -> Option<(u64, u64)>
+        ensures { result ≡ slice_get (list_at self.now.items name.now)
+            (length (list_at self.now.items name.now) - 1) }
+    {
+        match self.held.get(name) {
+            Some(list) => list.last(),
+            None => None,
+        }
+    }
+
+    /// The first pair of a name's list whose second number is above this one.
+    #[tactic(auto, using(crate::proofs::Lookups::listed))]
+    pub fn first_above(&self, name: &Text, number: u64) -> Option<(u64, u64)>
+        ensures { result ≡ find (λ pair. nat_lt number (ticket_in pair))
+            (list_at self.now.items name.now) }
+    {
+        match self.held.get(name) {
+            Some(list) => list.first_above(number),
             None => None,
         }
     }
@@ -146,28 +253,18 @@ impl Lists {
         }
     }
 
-    /// How much of a name's room is marked.
-    #[tactic(auto, using(crate::proofs::Lookups::marked))]
-    pub fn marked(&self, name: &Text) -> usize
-        ensures { result ≡ mark_at self.now.marks name.now }
+    /// How much room of a name is missing for one mark more. Where that is beyond its type there is no
+    /// answer.
+    #[tactic(auto, using(crate::proofs::Lookups::marked, crate::proofs::Lookups::spared))]
+    pub fn lack(&self, name: &Text) -> Option<usize>
+        ensures some { IfSome result (λ lack. lack
+            ≡ mark_at self.now.marks name.now + 1 - spare_at self.now.spares name.now) }
+        ensures none { IfNone result
+            (spare_at self.now.spares name.now ≤ mark_at self.now.marks name.now) }
     {
         match self.held.get(name) {
-            Some(list) => list.marked(),
-            None => 0,
-        }
-    }
-
-    /// Where a pair with this first number stands in a list that is in order of first numbers, or
-    /// where it would stand.
-    #[tactic(auto, using(crate::proofs::Lookups::listed))]
-    pub fn place_of(&self, name: &Text, number: u64) -> Result<usize, usize>
-        requires { IsStrictlyIncreasing (map number_in (list_at self.now.items name.now)) }
-        ensures found { IfOk result (λ at. IsPlace (list_at self.now.items name.now) number at) }
-        ensures absent { IfErr result (λ at. IsGap (list_at self.now.items name.now) number at) }
-    {
-        match self.held.get(name) {
-            Some(list) => list.place_of(number),
-            None => Err(0),
+            Some(list) => list.lack(),
+            None => Some(1),
         }
     }
 }

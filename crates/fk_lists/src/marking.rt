@@ -14,13 +14,12 @@ impl RoomByName for Lists {
         }
     }
 
-    #[tactic(auto, using(crate::proofs::Lookups::marked, crate::proofs::Lookups::spared))]
+    #[tactic(auto, using(crate::proofs::Lookups::listed, crate::proofs::Lookups::marked, crate::proofs::Lookups::spared))]
     fn mark(&mut self, name: &Text) -> Result<(), AllocError> {
-        self.reserve(name, 1)?;
-        let Some(list) = self.held.get_mut(name) else {
-            return Ok(());
-        };
-        list.mark()
+        match self.held.get_mut(name) {
+            Some(list) => list.mark(),
+            None => self.add_marked(name),
+        }
     }
 
     #[tactic(auto, using(crate::proofs::Lookups::marked, crate::proofs::Lookups::spared))]

@@ -1,7 +1,7 @@
-ghost use Rattle.std.specs.Prelude.{◌≡◌, ◌++◌, ◌+◌, ◌<◌, ◌≤◌, ◌↔◌, [], length, map, max, slice_get, IfErr, IfOk, IsOk, IsTrue, OnErr, OnOk};
+ghost use Rattle.std.specs.Prelude.{◌≡◌, ◌≢◌, ◌++◌, ◌∷◌, ◌+◌, ◌-◌, ◌<◌, ◌≤◌, ◌↔◌, [], Some, drop, find, length, map, max, nat_lt, slice_get, All, IfErr, IfOk, IfNone, IfSome, IsOk, IsTrue, OnErr, OnOk};
 ghost use Rattle.std.specs.List.{insert, remove};
 ghost use Rattle.std.specs.List.Sorted.{IsStrictlyIncreasing};
-ghost use Rattle.fk_model.specs.Orders.{number_in};
+ghost use Rattle.fk_model.specs.Orders.{number_in, ticket_in};
 ghost use Rattle.fk_lists.specs.Places.{IsGap, IsPlace};
 
 use fk_json::Pairs;
@@ -66,24 +66,79 @@ impl PairList {
         Ok(())
     }
 
+    /// Puts a pair behind all others.
+    pub(crate) fn push(&mut self, pair: (u64, u64))
+        requires room { 0 < self.old.spare }
+        ensures items { self.new.items ≡ self.old.items ++ pair ∷ [] }
+        ensures spare { self.new.spare + 1 ≡ self.old.spare }
+    {
+        self.spare -= 1;
+        self.pairs.push_back_reserved(pair);
+    }
+
+    /// Puts a pair by its first number, and gives the place where it is; or leaves the list as it is,
+    /// and gives the place of a pair with the same first number.
+    pub(crate) fn put(&mut self, pair: (u64, u64)) -> Result<usize, usize>
+        requires room { 0 < self.old.spare }
+        requires order { IsStrictlyIncreasing (map number_in self.old.items) }
+        ensures gap { IfOk result (λ at. IsGap self.old.items (number_in pair) at) }
+        ensures here { IfOk result (λ at. self.new.items ≡ insert self.old.items at pair) }
+        ensures spare { OnOk result (self.new.spare + 1 ≡ self.old.spare) }
+        ensures taken { IfErr result (λ at. IsPlace self.old.items (number_in pair) at) }
+        ensures same { OnErr result (self.new ≡ self.old) }
+    {
+        match self.place_of(pair.0) {
+            Ok(at) => Err(at),
+            Err(at) => {
+                self.insert(at, pair);
+                Ok(at)
+            }
+        }
+    }
+
     /// Puts a pair at a place.
-    pub(crate) fn insert(&mut self, at: usize, pair: (u64, u64))
+    #[tactic(auto, using(std::proofs::lemmas::List::Edits::insert_end))]
+    fn insert(&mut self, at: usize, pair: (u64, u64))
         requires room { 0 < self.old.spare }
         requires within { at ≤ length self.old.items }
         ensures items { self.new.items ≡ insert self.old.items at pair }
         ensures spare { self.new.spare + 1 ≡ self.old.spare }
     {
+        if at == self.pairs.len() {
+            return self.push(pair);
+        }
         self.spare -= 1;
         let _ = self.pairs.insert(at, pair);
     }
 
-    /// Takes the pair at a place out, if there is one.
-    pub(crate) fn remove(&mut self, at: usize) -> Option<(u64, u64)>
-        ensures value { result ≡ slice_get self.old.items at }
-        ensures items { self.new.items ≡ remove self.old.items at }
+    /// Takes the first pair out, if there is one.
+    pub(crate) fn take_first(&mut self) -> Option<(u64, u64)>
+        ensures value { result ≡ slice_get self.old.items 0 }
+        ensures items { self.new.items ≡ drop 1 self.old.items }
         ensures spare { self.new.spare ≡ self.old.spare }
     {
-        self.pairs.remove(at)
+        self.pairs.pop_front()
+    }
+
+    /// Takes a pair out, and gives the place where it was, if it is there.
+    pub(crate) fn take(&mut self, pair: (u64, u64)) -> Option<usize>
+        requires order { IsStrictlyIncreasing (map number_in self.old.items) }
+        ensures taken { IfSome result (λ at. slice_get self.old.items at ≡ Some pair) }
+        ensures here { IfSome result (λ at. self.new.items ≡ remove self.old.items at) }
+        ensures absent { IfNone result (All (λ other. other ≢ pair) self.old.items) }
+        ensures same { IfNone result (self.new.items ≡ self.old.items) }
+        ensures spare { self.new.spare ≡ self.old.spare }
+    {
+        let Ok(at) = self.place_of(pair.0) else {
+            return None;
+        };
+        match self.get(at) {
+            Some((_, second)) if second == pair.1 => {
+                let _ = self.pairs.remove(at);
+                Some(at)
+            }
+            _ => None,
+        }
     }
 
     /// Takes all pairs out.
@@ -101,6 +156,25 @@ impl PairList {
         self.pairs.get(at).copied()
     }
 
+    /// The last pair.
+    pub(crate) fn last(&self) -> Option<(u64, u64)>
+        ensures { result ≡ slice_get self.now.items (length self.now.items - 1) }
+    {
+        self.pairs.back().copied()
+    }
+
+    /// The first pair whose second number is above this one.
+    pub(crate) fn first_above(&self, number: u64) -> Option<(u64, u64)>
+        ensures { result ≡ find (λ pair. nat_lt number (ticket_in pair)) self.now.items }
+    {
+        'looking: for pair in self.pairs.iter() {
+            if number < pair.1 {
+                return Some(*pair);
+            }
+        }
+        None
+    }
+
     /// The number of pairs.
     pub(crate) fn len(&self) -> usize
         ensures { result ≡ length self.now.items }
@@ -115,11 +189,15 @@ impl PairList {
         self.spare
     }
 
-    /// How much of that room is marked.
-    pub(crate) fn marked(&self) -> usize
-        ensures { result ≡ self.now.mark }
+    /// How much room is missing for one mark more. Where that is beyond its type there is no answer.
+    pub(crate) fn lack(&self) -> Option<usize>
+        ensures some { IfSome result (λ lack. lack ≡ self.now.mark + 1 - self.now.spare) }
+        ensures none { IfNone result (self.now.spare ≤ self.now.mark) }
     {
-        self.mark
+        if self.mark < self.spare {
+            return Some(0);
+        }
+        (self.mark - self.spare).checked_add(1)
     }
 
     /// Marks room for one pair more, beside what is marked.
@@ -127,6 +205,7 @@ impl PairList {
         ensures ok { OnOk result ((self.new.mark ≡ self.old.mark + 1)
             × (self.new.mark ≤ self.new.spare)) }
         ensures err { OnErr result (self.new.mark ≡ self.old.mark) }
+        ensures spare { OnErr result (self.new.spare ≡ self.old.spare) }
         ensures kept { self.old.spare ≤ self.new.spare }
         ensures bound { self.new.spare ≤ max self.old.spare (self.old.mark + 1) }
         ensures same { self.new.items ≡ self.old.items }
@@ -159,7 +238,7 @@ impl PairList {
     }
 
     /// Where a pair with this first number stands, or would stand, in a list by first numbers.
-    pub(crate) fn place_of(&self, number: u64) -> Result<usize, usize>
+    fn place_of(&self, number: u64) -> Result<usize, usize>
         requires { IsStrictlyIncreasing (map number_in self.now.items) }
         ensures found { IfOk result (λ at. IsPlace self.now.items number at) }
         ensures absent { IfErr result (λ at. IsGap self.now.items number at) }

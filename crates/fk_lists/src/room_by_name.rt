@@ -35,6 +35,8 @@ pub trait RoomByName {
             (mark_at (room self.new).marks name.now ≡ mark_at (room self.old).marks name.now + 1) }
         ensures err { OnErr result
             (mark_at (room self.new).marks name.now ≡ mark_at (room self.old).marks name.now) }
+        ensures spare { OnErr result
+            (spare_at (room self.new).spares name.now ≡ spare_at (room self.old).spares name.now) }
         ensures within { OnOk result
             (mark_at (room self.new).marks name.now ≤ spare_at (room self.new).spares name.now) }
         ensures others { (other : List ℕ) → other ≢ name.now

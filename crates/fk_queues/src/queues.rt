@@ -47,8 +47,7 @@ impl Queues {
         ensures spare { spare_at self.new.spares queue.now + 1
             ≡ spare_at self.old.spares queue.now }
     {
-        let end = self.lists.len(queue);
-        self.lists.insert(queue, end, (rank, ticket));
+        self.lists.push(queue, (rank, ticket));
     }
 
     /// The rank and the ticket of a queue's first row.
@@ -69,7 +68,7 @@ impl Queues {
         ensures lean { IsLean self.new }
         ensures order { AreByRank self.old.items }
     {
-        self.lists.remove(queue, 0)
+        self.lists.take_first(queue)
     }
 
     /// The number of a queue's rows.
@@ -104,10 +103,7 @@ impl Queues {
             (length (list_at self.now.items queue.now) - 1) }
         ensures order { AreByRank self.now.items }
     {
-        match self.lists.len(queue) {
-            0 => None,
-            count => self.lists.get(queue, count - 1),
-        }
+        self.lists.last(queue)
     }
 }
 
@@ -128,24 +124,5 @@ impl RoomByName for Queues {
 
     fn clear(&mut self) {
         self.lists.clear();
-    }
-}
-
-#[cfg(test)]
-mod tests {
-    use super::*;
-    use std::test::Fail;
-
-    // No program asks for this list.
-    #[test]
-    fn the_rows_of_a_queue_are_listed(rt: HostRuntime) -> Result<(), Fail> {
-        let mail = Text::fixed(rt.alloc(), b"mail");
-        let mut queues = Queues::new(rt.alloc());
-        queues.reserve(&mail, 1)?;
-        queues.put(&mail, 3, 2);
-        let mut pairs = Pairs::new(rt.alloc());
-        queues.listed(&mail, &mut pairs)?;
-        assert_eq!(rt; (pairs.len(), pairs.get(0)), (1, Some(&(3, 2))));
-        Ok(())
     }
 }

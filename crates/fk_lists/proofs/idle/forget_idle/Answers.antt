@@ -4,20 +4,20 @@ use Rattle.fk_lists.proofs.InUse.{busy, no_pairs, no_room, sound_still, sound_wi
 use Rattle.fk_lists.proofs.Updates.{lists_stay, rooms_stay}
 use Rattle.fk_lists.proofs.idle.forget_idle.Goals as goal
 
-pub returns-then-is_idle-clause-items : goal.returns-then-is_idle-clause-items
-returns-then-is_idle-clause-items c =
+pub returns-then-idle-clause-items : goal.returns-then-idle-clause-items
+returns-then-idle-clause-items c =
     lists_stay _ _ _ _ c.remove.ensures.updates.0 c.requires.order c.remove.ensures.ordered
-    (sym (listed _ c.requires.order _ ∙ no_pairs _ (c.is_idle.ensures.0 c.if-is_idle.true)))
+    (sym (listed _ c.requires.order _ ∙ no_pairs _ (c.requires.idle.0 c.if-idle.true)))
 
-pub returns-then-is_idle-clause-spares : goal.returns-then-is_idle-clause-spares
-returns-then-is_idle-clause-spares c =
+pub returns-then-idle-clause-spares : goal.returns-then-idle-clause-spares
+returns-then-idle-clause-spares c =
     rooms_stay _ _ _ _ c.remove.ensures.updates.0
-    (sym (spared _ _ ∙ no_room _ (c.is_idle.ensures.0 c.if-is_idle.true)))
+    (sym (spared _ _ ∙ no_room _ (c.requires.idle.0 c.if-idle.true)))
 
-pub returns-then-is_idle-clause-sound : goal.returns-then-is_idle-clause-sound
-returns-then-is_idle-clause-sound c =
+pub returns-then-idle-clause-sound : goal.returns-then-idle-clause-sound
+returns-then-idle-clause-sound c =
     sound_with _ _ _ _ c.remove.ensures.updates.0 c.remove.ensures.ordered c.requires.others tt
 
-pub returns-else-is_idle-clause-sound : goal.returns-else-is_idle-clause-sound
-returns-else-is_idle-clause-sound c =
-    sound_still _ _ c.requires.order c.requires.others (busy _ _ c.is_idle.ensures c.if-is_idle.false)
+pub returns-else-idle-clause-sound : goal.returns-else-idle-clause-sound
+returns-else-idle-clause-sound c =
+    sound_still _ _ c.requires.order c.requires.others (busy _ _ c.requires.idle c.if-idle.false)

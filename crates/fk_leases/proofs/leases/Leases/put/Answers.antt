@@ -27,30 +27,25 @@ invariant_of-self c =
     let sound = c.self.invariant in
     let some = rw (← c.self.view_is) at c.requires.room in
     let within = one_room _ _ c.args.jid.now sound.room in
-    sound_with c.self.inside.lists c.insert.new.self c.self.inside.ends c.enter.new.ends c.self.inside.room
+    sound_with c.self.inside.lists c.put.new.self c.self.inside.ends c.enter.new.ends c.self.inside.room
     (c.self.inside.room - 1) sound
-    (one_less_room c.args.jid.now _ _ c.insert.ensures.others.spares _ _ some c.insert.ensures.spare
+    (one_less_room c.args.jid.now _ _ c.put.ensures.others.spares _ _ some c.in-Ok.ensures.spare
     (omega (arith, some, within)) sound.room)
     (omega (arith, some, within, sound.spare, c.enter.ensures.spare)) (c.args.ticket, c.args.until)
-    (rising_with c.args.jid.now (c.args.ticket, c.args.until) c.in-Err.at c.self.inside.lists.items
-    c.insert.new.self.items sound.by_ticket c.in-Err.ensures.absent
-    (record { here = c.insert.ensures.here; others = c.insert.ensures.others.items }))
-    c.insert.ensures.named c.enter.ensures.rising
-    (one_more c.args.jid.now (c.args.ticket, c.args.until) c.in-Err.at _ _ sound.named c.insert.ensures.named
-    c.insert.ensures.here c.insert.ensures.others.items) c.enter.ensures.same
+    (rising_with c.args.jid.now (c.args.ticket, c.args.until) c.in-Ok.field-0 c.self.inside.lists.items
+    c.put.new.self.items sound.by_ticket c.in-Ok.ensures.gap
+    (record { here = c.in-Ok.ensures.here; others = c.put.ensures.others.items }))
+    c.put.ensures.named c.enter.ensures.rising
+    (one_more c.args.jid.now (c.args.ticket, c.args.until) c.in-Ok.field-0 _ _ sound.named c.put.ensures.named
+    c.in-Ok.ensures.here c.put.ensures.others.items) c.enter.ensures.same
+
+pub returns-clause-here : goal.returns-clause-here
+returns-clause-here c =
+    rw (c.in-Ok.ensures.here, ← c.self.view_is)
+    (put_at_gap (c.args.ticket, c.args.until) _ c.in-Ok.field-0 c.in-Ok.ensures.gap)
 
 -- the ticket has no lease under this jid, as under any other
-pub returns-in-Ok-clause-here : goal.returns-in-Ok-clause-here
-returns-in-Ok-clause-here c =
-    absurd (stands_nowhere _ c.args.ticket c.in-Ok.field-0 (c.requires.absent c.args.jid.now)
-    (rw (← c.self.view_is) c.in-Ok.ensures.found))
-
-pub returns-in-Ok-clause-spare : goal.returns-in-Ok-clause-spare
-returns-in-Ok-clause-spare c =
-    absurd (stands_nowhere _ c.args.ticket c.in-Ok.field-0 (c.requires.absent c.args.jid.now)
-    (rw (← c.self.view_is) c.in-Ok.ensures.found))
-
-pub returns-in-Err-clause-here : goal.returns-in-Err-clause-here
-returns-in-Err-clause-here c =
-    rw (c.insert.ensures.here, ← c.self.view_is)
-    (put_at_gap (c.args.ticket, c.args.until) _ c.in-Err.at c.in-Err.ensures.absent)
+pub unreachable-requires : goal.unreachable-requires
+unreachable-requires c =
+    stands_nowhere _ c.args.ticket c.in_default.field-0 (c.requires.absent c.args.jid.now)
+    (rw (← c.self.view_is) c.in_default.ensures.taken)

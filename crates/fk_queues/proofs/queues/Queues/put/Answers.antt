@@ -5,6 +5,6 @@ use Rattle.fk_queues.proofs.queues.Queues.put.Goals as goal
 pub invariant_of-self : goal.invariant_of-self
 invariant_of-self c =
     let name = c.args.queue.now in
-    rising_with_last name (c.args.rank, c.args.ticket) c.self.inside.lists.items c.insert.new.self.items
+    rising_with_last name (c.args.rank, c.args.ticket) c.self.inside.lists.items c.push.new.self.items
     c.self.invariant (rw c.self.view_is c.requires.last)
-    (record { here = rw (← c.len-end.ensures) c.insert.ensures.here; others = c.insert.ensures.others.items })
+    (record { here = c.push.ensures.here; others = c.push.ensures.others.items })

@@ -1,7 +1,7 @@
-use Rattle.fk_lists.proofs.Renewed.{rising_without}
+use Rattle.fk_lists.proofs.Renewed.{rising_without_first}
 use Rattle.fk_queues.proofs.queues.Queues.take_first.Goals as goal
 
 pub invariant_of-self : goal.invariant_of-self
 invariant_of-self c =
-    rising_without c.args.queue.now 0 c.self.inside.lists.items c.remove.new.self.items c.self.invariant
-    (record { here = c.remove.ensures.here; others = c.remove.ensures.others.items })
+    rising_without_first c.args.queue.now c.self.inside.lists.items c.take_first.new.self.items c.self.invariant
+    (record { here = c.take_first.ensures.here; others = c.take_first.ensures.others.items })
