@@ -60,3 +60,7 @@ put_more spelled items i item a before now after lt is put next =
     = append_assoc a (flat_map spelled (take i items)) (spelled item)
     ∙ ap (λ (x : List ℕ). a ++ x) (ap (λ x. flat_map spelled (take i items) ++ spelled x) is ∙ sym (one_more spelled items i item lt)) in
     subst (λ (x : List ℕ). Put x before after) joined (put_then put next)
+
+-- four pieces behind others
+pub behind_all : (front a b c d : List ℕ) → front ++ (a ++ b ++ c ++ d) ≡ front ++ a ++ b ++ c ++ d
+behind_all front a b c d = simp append_assoc refl

@@ -48,6 +48,12 @@ job_bytes job =
     ++ signed_bytes job.retry ++ word_bytes job.reserve_for ++ option_bytes word_bytes job.at
     ++ flag_bytes job.has_created ++ text_bytes job.body
 
+-- what stands of a job between its texts
+abbrev pub number_bytes : Job → List ℕ
+number_bytes job =
+    signed_bytes job.retry ++ word_bytes job.reserve_for ++ option_bytes word_bytes job.at
+    ++ flag_bytes job.has_created
+
 -- a failure
 abbrev pub failure_bytes : Failure → List ℕ
 failure_bytes failure =

@@ -1,5 +1,5 @@
 // The parts of a spelling, put where there is room for them.
-ghost use Rattle.std.specs.Prelude.{◌≤◌, ◌<◌, ◌^◌, length, All, IfSome};
+ghost use Rattle.std.specs.Prelude.{◌≡◌, ◌∷◌, ◌++◌, ◌≤◌, [], ◌<◌, ◌^◌, length, All, IfSome};
 ghost use Rattle.std.specs.List.{flat_map};
 ghost use Rattle.fk_job.specs.Spellings.{IsText};
 ghost use Rattle.fk_model.specs.Spellings.{AreTexts};
@@ -32,6 +32,76 @@ pub(crate) fn put_signed(out: &mut Buffer, number: i64)
     put_bytes(out, &number.to_be_bytes());
 }
 
+/// Puts how often a job is tried again and how long a worker may have it, that it is due at once, and
+/// whether its producer said when it was made.
+#[tactic(auto, unfolding(crate::specs::Spelling::signed_bytes, crate::specs::Spelling::word_bytes))]
+pub(crate) fn put_terms(out: &mut Buffer, retry: i64, reserve_for: u64, has_created: bool)
+    requires { length
+        (signed_bytes retry ++ word_bytes reserve_for ++ (0 ∷ []) ++ flag_bytes has_created)
+        ≤ out.old.spare }
+    ensures { Put (signed_bytes retry ++ word_bytes reserve_for ++ (0 ∷ []) ++ flag_bytes has_created)
+        out.old out.new }
+{
+    let flag = flag_byte(has_created);
+    put_bytes(
+        out,
+        &terms(&retry.to_be_bytes(), &reserve_for.to_be_bytes(), flag),
+    );
+}
+
+fn flag_byte(flag: bool) -> u8
+    ensures { flag_bytes flag ≡ result ∷ [] }
+{
+    if flag { 1 } else { 0 }
+}
+
+fn terms(retry: &[u8; 8], reserve_for: &[u8; 8], flag: u8) -> [u8; 18]
+    ensures { result ≡ retry.now ++ reserve_for.now ++ (0 ∷ []) ++ (flag ∷ []) }
+{
+    let mut terms = [0; 18];
+    terms[17] = flag;
+    terms[8..16].copy_from_slice(reserve_for);
+    terms[..8].copy_from_slice(retry);
+    terms
+}
+
+/// Puts when a row was put into its queue, that it never failed, and its rank in the queue.
+#[tactic(auto, unfolding(crate::specs::Spelling::word_bytes))]
+pub(crate) fn put_queued(out: &mut Buffer, enqueued: u64, rank: u64)
+    requires { length ((1 ∷ word_bytes enqueued) ++ (0 ∷ []) ++ (1 ∷ word_bytes rank))
+        ≤ out.old.spare }
+    ensures { Put ((1 ∷ word_bytes enqueued) ++ (0 ∷ []) ++ (1 ∷ word_bytes rank)) out.old out.new }
+{
+    put_bytes(out, &queued(&enqueued.to_be_bytes(), &rank.to_be_bytes()));
+}
+
+fn queued(enqueued: &[u8; 8], rank: &[u8; 8]) -> [u8; 19]
+    ensures { result ≡ (1 ∷ enqueued.now) ++ (0 ∷ []) ++ (1 ∷ rank.now) }
+{
+    let mut queued = [1; 19];
+    queued[11..].copy_from_slice(rank);
+    queued[9] = 0;
+    queued[1..9].copy_from_slice(enqueued);
+    queued
+}
+
+/// Puts a byte that tells a kind, and a number behind it.
+#[tactic(auto, unfolding(crate::specs::Spelling::word_bytes))]
+pub(crate) fn put_tagged(out: &mut Buffer, tag: u8, number: u64)
+    requires { length (tag ∷ word_bytes number) ≤ out.old.spare }
+    ensures { Put (tag ∷ word_bytes number) out.old out.new }
+{
+    put_bytes(out, &tagged(tag, &number.to_be_bytes()));
+}
+
+fn tagged(tag: u8, number: &[u8; 8]) -> [u8; 9]
+    ensures { result ≡ tag ∷ number.now }
+{
+    let mut tagged = [tag; 9];
+    tagged[1..].copy_from_slice(number);
+    tagged
+}
+
 pub(crate) fn put_flag(out: &mut Buffer, flag: bool)
     requires { 1 ≤ out.old.spare }
     ensures { Put (flag_bytes flag) out.old out.new }
@@ -49,10 +119,7 @@ pub(crate) fn put_option(out: &mut Buffer, number: Option<u64>)
 {
     match number {
         None => put_bytes(out, &[0]),
-        Some(number) => {
-            put_bytes(out, &[1]);
-            put_word(out, number);
-        }
+        Some(number) => put_tagged(out, 1, number),
     }
 }
 

@@ -1,11 +1,14 @@
-ghost use Rattle.std.specs.Prelude.{◌≡◌, ◌∷◌, ◌++◌, ◌+◌, ◌≤◌, length, All, IfSome, IsOk, OnErr, OnOk};
+ghost use Rattle.std.specs.Prelude.{◌≡◌, ◌++◌, ◌+◌, ◌≤◌, length, All, IfSome, IsOk, OnErr, OnOk};
 ghost use Rattle.fk_job.specs.Spellings.{HasJobSpelling};
 ghost use Rattle.fk_model.specs.Spellings.{HasFailureSpelling, HasPlaceSpelling, HasRestSpelling, HasRowSpelling, HasSpelling};
-ghost use Rattle.fk_moves.specs.Spelling.{failure_bytes, job_bytes, move_bytes, moves_bytes, option_bytes, place_bytes, rest_bytes, row_bytes, word_bytes};
+ghost use Rattle.fk_moves.specs.Spelling.{failure_bytes, job_bytes, move_bytes, moves_bytes, number_bytes, option_bytes, place_bytes, rest_bytes, row_bytes};
 ghost use Rattle.fk_moves.specs.Writing.{Put};
 
 use crate::length::moves_length;
-use crate::putting::{put_bytes, put_flag, put_option, put_signed, put_text, put_texts, put_word};
+use crate::putting::{
+    put_bytes, put_flag, put_option, put_queued, put_signed, put_tagged, put_terms, put_text,
+    put_texts, put_word,
+};
 use fk_job::{Failure, FailureParts, Job};
 use fk_json::Buffer;
 use fk_model::{Move, Moves, Place, Row};
@@ -43,8 +46,7 @@ fn put_move(out: &mut Buffer, step: &Move)
 {
     match step {
         Move::Add { ticket, row } => {
-            put_bytes(out, &[1]);
-            put_word(out, *ticket);
+            put_tagged(out, 1, *ticket);
             put_row(out, row);
         }
         Move::Put {
@@ -53,22 +55,17 @@ fn put_move(out: &mut Buffer, step: &Move)
             failure,
             place,
         } => {
-            put_bytes(out, &[2]);
-            put_word(out, *ticket);
+            put_tagged(out, 2, *ticket);
             put_rest(out, *enqueued, failure, place);
         }
-        Move::Drop { ticket } => {
-            put_bytes(out, &[3]);
-            put_word(out, *ticket);
-        }
+        Move::Drop { ticket } => put_tagged(out, 3, *ticket),
         Move::DropAll => put_bytes(out, &[4]),
         Move::Totals {
             next,
             processed,
             failures,
         } => {
-            put_bytes(out, &[5]);
-            put_word(out, *next);
+            put_tagged(out, 5, *next);
             put_word(out, *processed);
             put_word(out, *failures);
         }
@@ -86,6 +83,18 @@ fn put_row(out: &mut Buffer, row: &Row)
 }
 
 fn put_rest(out: &mut Buffer, enqueued: Option<u64>, failure: &Option<Failure>, place: &Place)
+    requires spelled { HasRestSpelling enqueued failure.now place.now }
+    requires room { length (rest_bytes enqueued failure.now place.now) ≤ out.old.spare }
+    ensures { Put (rest_bytes enqueued failure.now place.now) out.old out.new }
+{
+    match (enqueued, failure, place) {
+        (Some(enqueued), None, Place::Queued { rank }) => put_queued(out, enqueued, *rank),
+        _ => put_parts(out, enqueued, failure, place),
+    }
+}
+
+/// The same part by part.
+fn put_parts(out: &mut Buffer, enqueued: Option<u64>, failure: &Option<Failure>, place: &Place)
     requires spelled { HasRestSpelling enqueued failure.now place.now }
     requires room { length (rest_bytes enqueued failure.now place.now) ≤ out.old.spare }
     ensures { Put (rest_bytes enqueued failure.now place.now) out.old out.new }
@@ -115,10 +124,10 @@ fn put_place(out: &mut Buffer, place: &Place)
     ensures { Put (place_bytes place.now) out.old out.new }
 {
     match place {
-        Place::Queued { rank } => put_numbered(out, 1, *rank),
-        Place::Scheduled { at } => put_numbered(out, 2, *at),
-        Place::Retry { at } => put_numbered(out, 3, *at),
-        Place::Dead { until } => put_numbered(out, 4, *until),
+        Place::Queued { rank } => put_tagged(out, 1, *rank),
+        Place::Scheduled { at } => put_tagged(out, 2, *at),
+        Place::Retry { at } => put_tagged(out, 3, *at),
+        Place::Dead { until } => put_tagged(out, 4, *until),
         Place::Working { wid, since, until } => {
             put_bytes(out, &[5]);
             put_text(out, wid);
@@ -126,15 +135,6 @@ fn put_place(out: &mut Buffer, place: &Place)
             put_word(out, *until);
         }
     }
-}
-
-/// Puts a place of which a number is said.
-fn put_numbered(out: &mut Buffer, tag: u8, number: u64)
-    requires { length (tag ∷ word_bytes number) ≤ out.old.spare }
-    ensures { Put (tag ∷ word_bytes number) out.old out.new }
-{
-    put_bytes(out, &[tag]);
-    put_word(out, number);
 }
 
 fn put_failure(out: &mut Buffer, failure: &FailureParts)
@@ -158,9 +158,22 @@ fn put_job(out: &mut Buffer, job: &Job)
     put_text(out, &job.jid);
     put_text(out, &job.jobtype);
     put_text(out, &job.queue);
-    put_signed(out, job.retry);
-    put_word(out, job.reserve_for);
-    put_option(out, job.at);
-    put_flag(out, job.has_created);
+    put_numbers(out, job);
     put_text(out, &job.body);
+}
+
+fn put_numbers(out: &mut Buffer, job: &Job)
+    requires spelled { HasJobSpelling job.now }
+    requires room { length (number_bytes job.now) ≤ out.old.spare }
+    ensures { Put (number_bytes job.now) out.old out.new }
+{
+    match job.at {
+        None => put_terms(out, job.retry, job.reserve_for, job.has_created),
+        Some(at) => {
+            put_signed(out, job.retry);
+            put_word(out, job.reserve_for);
+            put_tagged(out, 1, at);
+            put_flag(out, job.has_created);
+        }
+    }
 }
