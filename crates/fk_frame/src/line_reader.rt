@@ -26,8 +26,8 @@ pub enum Line {
 /// Cuts a stream that comes in any pieces into its lines.
 ///
 /// Bytes in front of `from` were given out, and those from there to `scanned` hold no LF, so no
-/// byte is looked at twice. What was given out is cut off when at least half of the buffer is, and
-/// what a long line took is given back.
+/// byte is looked at twice. What was given out is cut off when it is at least as long as what is left,
+/// and the memory of a long line is given back with it.
 #[derive(Drop)]
 pub struct LineReader {
     buffer: Vec<u8>,
@@ -90,6 +90,7 @@ impl LineReader {
         let text = Text::copy(*self.buffer.allocator(), line_before(line))?;
         self.from = end + 1;
         self.scanned = end + 1;
+        self.give_up_front();
         Ok(Line::Whole(text))
     }
 

@@ -38,4 +38,4 @@ returns-clause-ok c =
     let short = rw c.deref-2.ensures.value at (sym c.is_too_long.ensures ∙ c.if-is_too_long.false) in
     let found : c.line_end-end.result < length c.self.inside.buffer.items = omega arith in
     let text = c.in_ok-text.ensures ∙ (rw c.deref-2.ensures.value at c.line_before.ensures) in
-    rw (← c.self.view_is, text) (first_line _ _ _ _ c.self.invariant place found short)
+    rw (← c.self.view_is, text, c.give_up_front-2.ensures) (first_line _ _ _ _ c.self.invariant place found short)
