@@ -11,10 +11,14 @@ open_gate = 1
 abbrev pub closed_gate : ℕ
 closed_gate = 0
 
--- what stands behind the gate of a piece: its number and the length of its moves, in eight bytes each, the
--- greatest first, and the moves
+-- what a piece begins with, whose moves have so many bytes: its number and that length, in eight bytes
+-- each, the greatest first
+abbrev pub begun : ℕ → ℕ → List ℕ
+begun number count = to_be_bytes w64 number ++ to_be_bytes w64 count
+
+-- what stands behind the gate of a piece: what it begins with, and its moves
 unfoldable pub numbered : ℕ → List ℕ → List ℕ
-numbered number moves = to_be_bytes w64 number ++ to_be_bytes w64 (length moves) ++ moves
+numbered number moves = begun number (length moves) ++ moves
 
 -- a piece as it is handed in to be written: behind it stands the next gate, which is closed
 abbrev pub framed : ℕ → List ℕ → List ℕ

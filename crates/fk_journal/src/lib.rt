@@ -11,6 +11,6 @@ mod replaying;
 mod writing;
 
 pub use fault::{Damage, File, OpenFault, Refused, Replay};
-pub use framing::{CLOSED_GATE, OPEN_GATE, OVERHEAD, frame};
+pub use framing::{CLOSED_GATE, OPEN_GATE, OVERHEAD, begin_piece, end_piece, frame};
 pub use journal::{GREATEST_FILE, GREATEST_NUMBER, Journal};
 pub use parts::write_surely;
