@@ -32,7 +32,7 @@ pub drop_bytes : (moves : List Move) → IsOneDrop moves → length (moves_bytes
 unfolding word_bytes
 drop_bytes moves (ticket, next, processed, failures, is) = rw is refl
 
--- so many bytes have room wherever there is room for them
-pub drop_within : (moves : List Move) (bytes : List ℕ) (room : ℕ) → IsOneDrop moves → bytes ≡ moves_bytes moves
-    → 51 ≤ room → length bytes + 17 ≤ room
-drop_within moves bytes room one is enough = omega (arith, enough, ap length is, drop_bytes moves one)
+-- its piece has room in 51 bytes
+pub drop_framed : (moves : List Move) (room : ℕ) → IsOneDrop moves → 51 ≤ room
+    → length (moves_bytes moves) + 17 ≤ room
+drop_framed moves room one enough = omega (arith, enough, drop_bytes moves one)

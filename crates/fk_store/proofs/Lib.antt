@@ -9,6 +9,7 @@ pub mod Owing
 pub mod Deciding
 pub mod Settling
 pub mod Enough
+pub mod Framed
 pub mod CarriedOut
 pub mod Leaving
 pub mod Turns

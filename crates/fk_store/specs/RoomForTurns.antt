@@ -9,8 +9,7 @@ abbrev pub IsOneDrop : List Move → Type 0
 IsOneDrop moves = (ticket : ℕ) × (next : ℕ) × (processed : ℕ) × (failures : ℕ)
     × (moves ≡ Drop ticket ∷ Totals next processed failures ∷ [])
 
--- there is always room for the moves of an acknowledgement, for their bytes, and for their piece
+-- there is always room for the moves of an acknowledgement, and for their piece
 pub record HasRoom (room : Room) : Type 0 where
   pub two : 2 ≤ length room.moves.items + room.moves.spare
-  pub bytes : 34 ≤ length room.spelled.items + room.spelled.spare
   pub framed_ : 51 ≤ length room.piece.items + room.piece.spare

@@ -14,8 +14,6 @@ impl Room {
         ensures { HasRoom self.new }
     {
         empty_list(alloc, &mut self.moves, count, MOVES_KEPT);
-        let spelled = self.spelled.len();
-        empty_list(alloc, &mut self.spelled, spelled, BYTES_KEPT);
         let piece = self.piece.len();
         empty_list(alloc, &mut self.piece, piece, BYTES_KEPT);
     }

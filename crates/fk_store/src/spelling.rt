@@ -1,4 +1,4 @@
-// All memory of a turn's moves: in the tables, for their bytes, and for their piece.
+// All memory of a turn's moves: in the tables, and for their piece.
 ghost use Rattle.std.specs.Prelude.{◌≡◌, ◌+◌, ◌≤◌, length, All, IsOk, OnErr, OnOk};
 ghost use Rattle.fk_journal.specs.Limits.{overhead};
 ghost use Rattle.fk_journal.specs.Pieces.{framed};
@@ -10,14 +10,14 @@ ghost use Rattle.fk_store.specs.RoomForTurns.{HasRoom, IsOneDrop};
 
 use crate::store::Room;
 use fk_core::Tables;
-use fk_journal::frame;
+use fk_journal::{begin_piece, end_piece};
 use fk_json::Buffer;
 use fk_model::Moves;
-use fk_moves::write_moves;
+use fk_moves::{moves_length, write_moves};
 use std::alloc::AllocError;
 
-/// Takes all memory that the moves need before they are made: in the tables, for their bytes, and for their piece,
-/// which gets this number.
+/// Takes all memory that the moves need before they are made: in the tables, and for their piece, which gets this
+/// number.
 pub(crate) fn prepare(tables: &mut Tables, room: &mut Room, number: u64) -> Result<(), AllocError>
     requires fit { FitInTurn tables.old.kept room.old.moves.items }
     requires room { HasRoom room.old }
@@ -29,27 +29,21 @@ pub(crate) fn prepare(tables: &mut Tables, room: &mut Room, number: u64) -> Resu
     ensures room { HasRoom room.new }
 {
     tables.reserve(&room.moves)?;
-    spell(&room.moves, &mut room.spelled)?;
-    frame_piece(&mut room.piece, number, room.spelled.bytes())
+    spell(&room.moves, number, &mut room.piece)
 }
 
-/// Spells the moves, in the place of what was there.
-fn spell(moves: &Moves, spelled: &mut Buffer) -> Result<(), AllocError>
+/// Spells the moves in a piece with this number, in the place of what was there. Their bytes stand there alone, since
+/// those of a long list are many.
+fn spell(moves: &Moves, number: u64, piece: &mut Buffer) -> Result<(), AllocError>
     requires { All HasSpelling moves.now.items }
-    ensures ok { OnOk result (spelled.new.items ≡ moves_bytes moves.now.items) }
-    ensures ready { length (moves_bytes moves.now.items) ≤ length spelled.old.items + spelled.old.spare → IsOk result }
-    ensures room { length spelled.old.items + spelled.old.spare ≤ length spelled.new.items + spelled.new.spare }
-{
-    spelled.clear();
-    write_moves(moves, spelled)
-}
-
-/// Frames the piece with this number and these moves, in the place of what was there.
-fn frame_piece(piece: &mut Buffer, number: u64, moves: &[u8]) -> Result<(), AllocError>
-    ensures ok { OnOk result (piece.new.items ≡ framed number moves.now) }
-    ensures ready { length moves.now + overhead ≤ length piece.old.items + piece.old.spare → IsOk result }
+    ensures ok { OnOk result (piece.new.items ≡ framed number (moves_bytes moves.now.items)) }
+    ensures ready { length (moves_bytes moves.now.items) + overhead ≤ length piece.old.items + piece.old.spare
+        → IsOk result }
     ensures room { length piece.old.items + piece.old.spare ≤ length piece.new.items + piece.new.spare }
 {
     piece.clear();
-    frame(piece, number, moves)
+    begin_piece(piece, number, moves_length(moves))?;
+    write_moves(moves, piece)?;
+    end_piece(piece);
+    Ok(())
 }

@@ -29,9 +29,7 @@ pub struct Store<D: Disk, C: Clock, J: Dice> {
 pub(crate) struct Room {
     /// The moves of the turn.
     pub(crate) moves: Moves,
-    /// Their bytes.
-    pub(crate) spelled: ListWithRoom<u8>,
-    /// The piece that is made of these.
+    /// The piece that is made of them.
     pub(crate) piece: ListWithRoom<u8>,
 }
 
@@ -62,7 +60,6 @@ impl<D: Disk, C: Clock, J: Dice> Model for Store<D, C, J> {
         × IsOwedFor store.tables.kept store.shelf.live.number store.shelf.live.owed
         (option_map (λ held. held.value.items) store.doubt))
         × (2 ≤ length store.room.moves.items + store.room.moves.spare)
-        × (34 ≤ length store.room.spelled.items + store.room.spelled.spare)
         × (51 ≤ length store.room.piece.items + store.room.piece.spare) };
 }
 

@@ -26,7 +26,6 @@ invariant_of-result g c =
       none_owed _ come.free,
       (λ tells. (come.later c.in-Ok-replay_all.ensures.behind tells, owed_for_none _ _ _ come.free)),
       omega (arith, c.in-Ok.ensures.moves),
-      omega (arith, c.in-Ok.ensures.spelled),
       omega (arith, c.in-Ok.ensures.piece),
     )
 
